@@ -1,0 +1,5 @@
+pub mod Rounds
+pub mod Derived
+pub mod Same
+pub mod Counted
+pub mod Claims

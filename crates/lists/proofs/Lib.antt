@@ -1,0 +1,4 @@
+pub mod Bools
+pub mod Members
+pub mod Nodup
+pub mod Sublists

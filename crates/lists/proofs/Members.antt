@@ -1,0 +1,140 @@
+-- What `all`, `any`, `filter`, `member`, `range` and `flatMap` say of a list's members.
+use mathlib.Core.Bool.{Bool, true, false, _&&_, _||_, false≢true}
+use mathlib.Core.List.{List, [], _∷_, _++_, map, flatMap, List·Memᴰ, List·Memᴰ·head, List·Memᴰ·tail, List·Memᴰ·not-nil, List·Memᴰ·cases-cons, List·Memᴰ·append-cases, Memᴰ·append-left, Memᴰ·append-right}
+use mathlib.Core.Logic.{⊎-elim}
+use mathlib.Core.Path.{_≡_, refl, sym, _∙_, ap, subst}
+use Prim.Native.Nat.{ℕ, zero, suc, _+_, _≤_, _<_}
+use native.Mathlib.Omega.{arith}
+use borrow.Author.Tests.{eqb-true, eq-eqb}
+use lib.Dec.{eqb}
+use Rattle.lists.specs.Lists.{all, any, filter, member, range}
+use Rattle.lists.proofs.Bools.{by-bool, bool-ext, true-false, is-false, and-intro, and-left, and-right, or-cases, or-left, or-right}
+
+module _ {A : Type 0} where
+  pub all-at : (p : A → Bool) (l : List A) → all p l ≡ true → (x : A) → List·Memᴰ x l → p x ≡ true
+  unfolding all
+  all-at p [] e x m = absurd (List·Memᴰ·not-nil m)
+  all-at p (y ∷ l) e x m =
+      ⊎-elim (λ q. subst (λ z. p z ≡ true) (sym q) (and-left (p y) (all p l) e)) (λ n. all-at p l (and-right (p y) (all p l) e) x n)
+      (List·Memᴰ·cases-cons m)
+
+  pub all-intro : (p : A → Bool) (l : List A) → ((x : A) → List·Memᴰ x l → p x ≡ true) → all p l ≡ true
+  unfolding all
+  all-intro p [] h = refl
+  all-intro p (y ∷ l) h = and-intro (h y (List·Memᴰ·head refl)) (all-intro p l (λ x m. h x (List·Memᴰ·tail m)))
+
+  pub any-intro : (p : A → Bool) (l : List A) (x : A) → List·Memᴰ x l → p x ≡ true → any p l ≡ true
+  unfolding any
+  any-intro p [] x m e = absurd (List·Memᴰ·not-nil m)
+  any-intro p (y ∷ l) x m e =
+      ⊎-elim (λ q. or-left (any p l) (subst (λ z. p z ≡ true) q e)) (λ n. or-right (p y) (any-intro p l x n e)) (List·Memᴰ·cases-cons m)
+
+  pub any-at : (p : A → Bool) (l : List A) → any p l ≡ true → (x : A) × List·Memᴰ x l × (p x ≡ true)
+  unfolding any
+  any-at p [] e = absurd (false≢true e)
+  any-at p (y ∷ l) e = ⊎-elim (λ q. (y, List·Memᴰ·head refl, q)) (λ q. let r = any-at p l q in (r .0, List·Memᴰ·tail (r .1), r .2)) (or-cases (p y) (any p l) e)
+
+  pub any-none : (p : A → Bool) (l : List A) → any p l ≡ false → (x : A) → List·Memᴰ x l → p x ≡ false
+  any-none p l e x m = is-false (λ t. true-false (any-intro p l x m t) e)
+
+  pub all-fails : (p : A → Bool) (l : List A) → all p l ≡ false → (x : A) × List·Memᴰ x l × (p x ≡ false)
+  unfolding all
+  all-fails p [] e = absurd (false≢true (sym e))
+  all-fails p (y ∷ l) e =
+      by-bool (p y) (λ t. let r = all-fails p l (rest t) in (r .0, List·Memᴰ·tail (r .1), r .2)) (λ f. (y, List·Memᴰ·head refl, f))
+    where
+      rest : p y ≡ true → all p l ≡ false
+      rest t = is-false (λ a. true-false (and-intro t a) e)
+
+  -- Tests that agree on the members agree on the list.
+  pub all-cong : (p q : A → Bool) (l : List A) → ((x : A) → List·Memᴰ x l → p x ≡ q x) → all p l ≡ all q l
+  all-cong p q l h =
+      bool-ext (λ e. all-intro q l (λ x m. sym (h x m) ∙ all-at p l e x m)) (λ e. all-intro p l (λ x m. h x m ∙ all-at q l e x m))
+
+  pub any-cong : (p q : A → Bool) (l : List A) → ((x : A) → List·Memᴰ x l → p x ≡ q x) → any p l ≡ any q l
+  any-cong p q l h =
+      bool-ext (λ e. let r = any-at p l e in any-intro q l (r .0) (r .1) (sym (h (r .0) (r .1)) ∙ r .2))
+      (λ e. let r = any-at q l e in any-intro p l (r .0) (r .1) (h (r .0) (r .1) ∙ r .2))
+
+  pub all-mono : (p q : A → Bool) (l : List A) → ((x : A) → p x ≡ true → q x ≡ true) → all p l ≡ true → all q l ≡ true
+  all-mono p q l h e = all-intro q l (λ x m. h x (all-at p l e x m))
+
+  pub all-append : (p : A → Bool) (l m : List A) → all p (l ++ m) ≡ (all p l && all p m)
+  unfolding all
+  all-append p [] m = refl
+  all-append p (x ∷ l) m = by-bool (p x) (λ t. rw t (all-append p l m)) (λ f. rw f refl)
+
+  pub any-append : (p : A → Bool) (l m : List A) → any p (l ++ m) ≡ (any p l || any p m)
+  unfolding any
+  any-append p [] m = refl
+  any-append p (x ∷ l) m = by-bool (p x) (λ t. rw t refl) (λ f. rw f (any-append p l m))
+
+  pub filter-in : (p : A → Bool) (l : List A) (x : A) → List·Memᴰ x l → p x ≡ true → List·Memᴰ x (filter p l)
+  unfolding filter
+  filter-in p [] x m e = absurd (List·Memᴰ·not-nil m)
+  filter-in p (y ∷ l) x m e =
+      by-bool (p y)
+      (λ t. rw t (⊎-elim (λ q. List·Memᴰ·head q) (λ n. List·Memᴰ·tail (filter-in p l x n e)) (List·Memᴰ·cases-cons m)))
+      (λ f. rw f (⊎-elim (λ q. absurd (true-false e (ap p q ∙ f))) (λ n. filter-in p l x n e) (List·Memᴰ·cases-cons m)))
+
+  pub filter-out : (p : A → Bool) (l : List A) (x : A) → List·Memᴰ x (filter p l) → List·Memᴰ x l × (p x ≡ true)
+  unfolding filter
+  filter-out p [] x m = absurd (List·Memᴰ·not-nil m)
+  filter-out p (y ∷ l) x m =
+      by-bool (p y)
+      (λ t. ⊎-elim (λ q. (List·Memᴰ·head q, ap p q ∙ t)) (λ n. let r = filter-out p l x n in (List·Memᴰ·tail (r .0), r .1))
+      (List·Memᴰ·cases-cons (rw t at m)))
+      (λ f. let r = filter-out p l x (rw f at m) in (List·Memᴰ·tail (r .0), r .1))
+
+module _ {A B : Type 0} where
+  pub all-map : (p : B → Bool) (f : A → B) (l : List A) → all p (map f l) ≡ all (λ x. p (f x)) l
+  unfolding all
+  all-map p f [] = refl
+  all-map p f (x ∷ l) = ap (λ (y : Bool). p (f x) && y) (all-map p f l)
+
+  pub any-map : (p : B → Bool) (f : A → B) (l : List A) → any p (map f l) ≡ any (λ x. p (f x)) l
+  unfolding any
+  any-map p f [] = refl
+  any-map p f (x ∷ l) = ap (λ (y : Bool). p (f x) || y) (any-map p f l)
+
+  pub flatMap-in : (f : A → List B) (l : List A) (x : A) (y : B) → List·Memᴰ x l → List·Memᴰ y (f x) → List·Memᴰ y (flatMap f l)
+  unfolding flatMap
+  flatMap-in f [] x y m n = absurd (List·Memᴰ·not-nil m)
+  flatMap-in f (z ∷ l) x y m n =
+      ⊎-elim (λ q. Memᴰ·append-left (flatMap f l) (subst (λ w. List·Memᴰ y (f w)) q n)) (λ r. Memᴰ·append-right (f z) (flatMap-in f l x y r n))
+      (List·Memᴰ·cases-cons m)
+
+  pub flatMap-out : (f : A → List B) (l : List A) (y : B) → List·Memᴰ y (flatMap f l) → (x : A) × List·Memᴰ x l × List·Memᴰ y (f x)
+  unfolding flatMap
+  flatMap-out f [] y m = absurd (List·Memᴰ·not-nil m)
+  flatMap-out f (z ∷ l) y m =
+      ⊎-elim (λ n. (z, List·Memᴰ·head refl, n)) (λ n. let r = flatMap-out f l y n in (r .0, List·Memᴰ·tail (r .1), r .2))
+      (List·Memᴰ·append-cases (f z) m)
+
+-- Numbers.
+pub member-out : (a : ℕ) (l : List ℕ) → member a l ≡ true → List·Memᴰ a l
+unfolding member
+member-out a l e = let r = any-at (eqb a) l e in subst (λ b. List·Memᴰ b l) (sym (eqb-true a (r .0) (r .2))) (r .1)
+
+pub member-in : (a : ℕ) (l : List ℕ) → List·Memᴰ a l → member a l ≡ true
+unfolding member
+member-in a l m = any-intro (eqb a) l a m (eq-eqb a a refl)
+
+pub record Between (a k b : ℕ) : Type 0 where
+  pub low : a ≤ b
+  pub high : b < a + k
+
+pub range-out : (a k b : ℕ) → List·Memᴰ b (range a k) → Between a k b
+unfolding range
+range-out a zero b m = absurd (List·Memᴰ·not-nil m)
+range-out a (suc k) b m =
+    ⊎-elim (λ q. record { low = omega arith; high = omega arith }) (λ n. let r = range-out (suc a) k b n in record { low = omega (arith, r .low); high = omega (arith, r .high) })
+    (List·Memᴰ·cases-cons m)
+
+pub range-in : (a k b : ℕ) → a ≤ b → b < a + k → List·Memᴰ b (range a k)
+unfolding range
+range-in a zero b l h = absurd (omega arith)
+range-in a (suc k) b l h = by-bool (eqb a b) (λ t. List·Memᴰ·head (sym (eqb-true a b t))) (λ f. List·Memᴰ·tail (range-in (suc a) k b (less f) (omega arith)))
+  where
+    less : eqb a b ≡ false → suc a ≤ b
+    less f = let ne : a ≡ b → ⊥ = λ q. true-false (eq-eqb a b q) f in omega arith

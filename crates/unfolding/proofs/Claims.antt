@@ -1,0 +1,34 @@
+-- The proof of each claim.
+use Rattle.unfolding.specs.Claims.{EveryAtomInOne, NamedBySmallest, ChainsAreListed, TestIsPasses, DefaultPasses, UnfoldedHasNoLoop, ClausesAreFaithful, LiteralsAreNumbered, WordsAreClauses}
+use Rattle.unfolding.proofs.Reach.{together-refl, component-of, component-only, component-together, component-smallest}
+use Rattle.unfolding.proofs.Chains.{chains-in, chains-out, passes-iff}
+use Rattle.unfolding.proofs.Default.{default-passes}
+use Rattle.unfolding.proofs.NoLoop.{no-positive-loop}
+use Rattle.unfolding.proofs.Theorem.{faithful, literals-numbered, words-clauses}
+
+pub every-atom-in-one : EveryAtomInOne
+every-atom-in-one P w a l = record { own = component-of P w a l; holds-it = together-refl P w a l; only = λ C K c. component-only P w C K a c }
+
+pub named-by-smallest : NamedBySmallest
+named-by-smallest P w a l = record { inside = component-together P w a l; smallest = λ b t. component-smallest P w a b l t }
+
+pub chains-are-listed : ChainsAreListed
+chains-are-listed P w c = (chains-out P w c, chains-in P c)
+
+pub test-is-passes : TestIsPasses
+test-is-passes = passes-iff
+
+pub default-is-found : DefaultPasses
+default-is-found = default-passes
+
+pub unfolded-has-no-loop : UnfoldedHasNoLoop
+unfolded-has-no-loop = no-positive-loop
+
+pub clauses-are-faithful : ClausesAreFaithful
+clauses-are-faithful P s A = faithful P (A .program) s (A .entries) (A .found)
+
+pub literals-are-numbered : LiteralsAreNumbered
+literals-are-numbered P s A = literals-numbered P (A .program) s (A .entries) (A .found)
+
+pub words-are-clauses : WordsAreClauses
+words-are-clauses P s A = words-clauses P (A .program) s (A .entries) (A .found)

@@ -1,0 +1,16 @@
+pub mod Reach
+pub mod Chains
+pub mod Default
+pub mod Current
+pub mod Exact
+pub mod Ancestors
+pub mod Grounded
+pub mod Copies
+pub mod Numbering
+pub mod Completion
+pub mod Bounds
+pub mod Words
+pub mod Theorem
+pub mod NoLoop
+pub mod Claims
+pub mod Examples

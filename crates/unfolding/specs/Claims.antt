@@ -1,0 +1,63 @@
+-- What is proved of the definitions; `proofs/Claims.antt` has the proof of each.
+use mathlib.Core.Bool.{true}
+use mathlib.Core.List.{List, List·Memᴰ}
+use mathlib.Core.Logic.{_↔_}
+use mathlib.Core.Path.{_≡_}
+use Prim.Native.Nat.{ℕ, _≤_, _<_}
+use Rattle.asp.specs.Program.{Program, State, below, wellFormed}
+use Rattle.unfolding.specs.Graph.{Component, together, component}
+use Rattle.unfolding.specs.Chain.{Chain, Passes, chains, passes}
+use Rattle.unfolding.specs.Default.{defaultSequence}
+use Rattle.unfolding.specs.Unfolded.{NoPositiveLoop, unfolded}
+use Rattle.unfolding.specs.Clauses.{Literal, Clause, variableOf, signedWords, readWords}
+use Rattle.unfolding.specs.Faithful.{clausesOf, variablesOf, Faithful}
+
+-- Every atom is in just one component.
+pub record OneComponent (P : Program) (a : ℕ) : Type 0 where
+  pub own : Component P (together P a)
+  pub holds-it : together P a a ≡ true
+  pub only : (C : State) → Component P C → C a ≡ true → C ≡ together P a
+
+abbrev pub EveryAtomInOne : Type 0
+EveryAtomInOne = (P : Program) → wellFormed P ≡ true → (a : ℕ) → a < P .atoms → OneComponent P a
+
+-- A component is named by its smallest atom.
+pub record Smallest (P : Program) (a : ℕ) : Type 0 where
+  pub inside : together P a (component P a) ≡ true
+  pub smallest : (b : ℕ) → together P a b ≡ true → component P a ≤ b
+
+abbrev pub NamedBySmallest : Type 0
+NamedBySmallest = (P : Program) → wellFormed P ≡ true → (a : ℕ) → a < P .atoms → Smallest P a
+
+-- The listed chains are the chains, and the test of a sequence says whether every chain is found in it.
+abbrev pub ChainsAreListed : Type 0
+ChainsAreListed = (P : Program) → wellFormed P ≡ true → (w : List ℕ) → List·Memᴰ w (chains P) ↔ Chain P w
+
+abbrev pub TestIsPasses : Type 0
+TestIsPasses = (P : Program) → wellFormed P ≡ true → (s : List ℕ) → (passes P s ≡ true) ↔ Passes P s
+
+-- The default sequence passes.
+abbrev pub DefaultPasses : Type 0
+DefaultPasses = (P : Program) → wellFormed P ≡ true → Passes P (defaultSequence P)
+
+-- The unfolded program has no positive loop, whatever the sequence of atoms.
+abbrev pub UnfoldedHasNoLoop : Type 0
+UnfoldedHasNoLoop = (P : Program) → wellFormed P ≡ true → (s : List ℕ) → below (P .atoms) s ≡ true → NoPositiveLoop (unfolded P s)
+
+-- A program and a sequence of its atoms that passes.
+pub record Accepted (P : Program) (s : List ℕ) : Type 0 where
+  pub program : wellFormed P ≡ true
+  pub entries : below (P .atoms) s ≡ true
+  pub found : Passes P s
+
+-- Demand 3.
+abbrev pub ClausesAreFaithful : Type 0
+ClausesAreFaithful = (P : Program) (s : List ℕ) → Accepted P s → Faithful P s
+
+-- The clauses name the variables from 1 to the number of variables only, and their words, split at 0, give them back.
+abbrev pub LiteralsAreNumbered : Type 0
+LiteralsAreNumbered = (P : Program) (s : List ℕ) → Accepted P s → (c : Clause) → List·Memᴰ c (clausesOf P s) → (l : Literal) → List·Memᴰ l c
+    → (1 ≤ variableOf l) × (variableOf l ≤ variablesOf P s)
+
+abbrev pub WordsAreClauses : Type 0
+WordsAreClauses = (P : Program) (s : List ℕ) → Accepted P s → readWords (signedWords (clausesOf P s)) ≡ clausesOf P s
