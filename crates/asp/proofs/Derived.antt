@@ -6,10 +6,10 @@ use mathlib.Core.Path.{_≡_, _∙_, ap, subst}
 use Prim.Native.Nat.{ℕ, _<_}
 use borrow.Author.Tests.{eqb-true, eq-eqb, ltb-true}
 use lib.Dec.{eqb, ltb}
-use Rattle.lists.specs.Lists.{all, filter}
+use Rattle.lists.specs.Lists.{below, all, filter}
 use Rattle.lists.proofs.Bools.{and-intro, and-left, and-right}
 use Rattle.lists.proofs.Members.{all-at, all-mono, any-at, any-intro, filter-in, filter-out}
-use Rattle.asp.specs.Program.{Body, Rule, Program, State, outside, below, ruleBelow, bodyBelow, wellFormed}
+use Rattle.asp.specs.Program.{Body, Rule, Program, State, outside, ruleBelow, bodyBelow, wellFormed}
 use Rattle.asp.specs.LeastModel.{Definite, consequences, leastModel, Inside, Least}
 use Rattle.asp.specs.Settled.{definite, reduct, derived}
 use Rattle.asp.proofs.Rounds.{Operator, rounds-least, rounds-below}

@@ -33,13 +33,13 @@ pub outside-less : (X Y : State) → Inside X Y → (l : List ℕ) → outside Y
 unfolding outside
 outside-less X Y i l h = all-mono (λ a. not (Y a)) (λ a. not (X a)) l (λ a e. not-intro (is-false (λ t. true-false (i a t) (not-elim e)))) h
 
-beq-in : (x y : Bool) → x ≡ y → Bool·beq x y ≡ true
+pub beq-in : (x y : Bool) → x ≡ y → Bool·beq x y ≡ true
 beq-in true true e = refl
 beq-in true false e = sym e
 beq-in false true e = e
 beq-in false false e = refl
 
-beq-out : (x y : Bool) → Bool·beq x y ≡ true → x ≡ y
+pub beq-out : (x y : Bool) → Bool·beq x y ≡ true → x ≡ y
 beq-out true true e = refl
 beq-out true false e = sym e
 beq-out false true e = e

@@ -4,3 +4,4 @@ pub mod Settled
 pub mod AnswerSet
 pub mod Count
 pub mod Claims
+pub mod Decided

@@ -3,7 +3,7 @@ use mathlib.Core.Bool.{Bool, not, _&&_}
 use mathlib.Core.List.{List}
 use Prim.Native.Nat.{ℕ}
 use lib.Dec.{ltb}
-use Rattle.lists.specs.Lists.{all}
+use Rattle.lists.specs.Lists.{all, below}
 
 -- The positive and the negative atoms of a rule or a constraint.
 pub record Body : Type 0 where
@@ -33,10 +33,7 @@ outside X l = all (λ a. not (X a)) l
 unfoldable pub holds : State → Body → Bool
 holds X b = all X (b .pos) && outside X (b .neg)
 
--- The atoms are 0 to n - 1.
-unfoldable pub below : ℕ → List ℕ → Bool
-below n l = all (λ a. ltb a n) l
-
+-- The atoms of the body are 0 to n - 1.
 unfoldable pub bodyBelow : ℕ → Body → Bool
 bodyBelow n b = below n (b .pos) && below n (b .neg)
 

@@ -1,13 +1,15 @@
 -- What `all`, `any`, `filter`, `member`, `range` and `flatMap` say of a list's members.
-use mathlib.Core.Bool.{Bool, true, false, _&&_, _||_, false≢true}
+use mathlib.Core.Bool.{Bool, true, false, not, _&&_, _||_, false≢true}
 use mathlib.Core.List.{List, [], _∷_, _++_, map, flatMap, List·Memᴰ, List·Memᴰ·head, List·Memᴰ·tail, List·Memᴰ·not-nil, List·Memᴰ·cases-cons, List·Memᴰ·append-cases, Memᴰ·append-left, Memᴰ·append-right}
 use mathlib.Core.Logic.{⊎-elim}
 use mathlib.Core.Path.{_≡_, refl, sym, _∙_, ap, subst}
-use Prim.Native.Nat.{ℕ, zero, suc, _+_, _≤_, _<_}
+use Prim.Native.Nat.{ℕ, zero, suc, _+_, _-_, _≤_, _<_}
+use native.Mathlib.Numerals.{add-one}
 use native.Mathlib.Omega.{arith}
-use borrow.Author.Tests.{eqb-true, eq-eqb}
-use lib.Dec.{eqb}
-use Rattle.lists.specs.Lists.{all, any, filter, member, range}
+use borrow.Author.Tests.{eqb-true, eq-eqb, ltb-true, lt-ltb}
+use lib.Dec.{eqb, ltb}
+use lib.ListN.{length}
+use Rattle.lists.specs.Lists.{all, any, below, filter, member, range, times}
 use Rattle.lists.proofs.Bools.{by-bool, bool-ext, true-false, is-false, and-intro, and-left, and-right, or-cases, or-left, or-right}
 
 module _ {A : Type 0} where
@@ -69,6 +71,30 @@ module _ {A : Type 0} where
   any-append p [] m = refl
   any-append p (x ∷ l) m = by-bool (p x) (λ t. rw t refl) (λ f. rw f (any-append p l m))
 
+  pub any-filter : (p q : A → Bool) (l : List A) → any p (filter q l) ≡ any (λ x. q x && p x) l
+  unfolding any filter
+  any-filter p q [] = refl
+  any-filter p q (x ∷ l) = by-bool (q x) (λ t. rw t (ap (λ (y : Bool). p x || y) (any-filter p q l))) (λ f. rw f (any-filter p q l))
+
+  pub filter-cong : (p q : A → Bool) (l : List A) → ((x : A) → List·Memᴰ x l → p x ≡ q x) → filter p l ≡ filter q l
+  unfolding filter
+  filter-cong p q [] h = refl
+  filter-cong p q (x ∷ l) h =
+      rw (h x (List·Memᴰ·head refl), filter-cong p q l (λ y m. h y (List·Memᴰ·tail m))) refl
+
+  pub filter-none : (p : A → Bool) (l : List A) → ((x : A) → List·Memᴰ x l → p x ≡ false) → filter p l ≡ []
+  unfolding filter
+  filter-none p [] h = refl
+  filter-none p (x ∷ l) h = rw (h x (List·Memᴰ·head refl)) (filter-none p l (λ y m. h y (List·Memᴰ·tail m)))
+
+  -- The members that pass, with those that also pass another test and those that do not.
+  pub filter-parts : (p t : A → Bool) (l : List A) → length (filter p l) ≡ length (filter (λ x. p x && t x) l) + length (filter (λ x. p x && not (t x)) l)
+  unfolding filter
+  filter-parts p t [] = refl
+  filter-parts p t (x ∷ l) =
+      let h = filter-parts p t l in
+      by-bool (p x) (λ a. rw a (by-bool (t x) (λ b. rw b (omega arith)) (λ b. rw b (omega arith)))) (λ a. rw a h)
+
   pub filter-in : (p : A → Bool) (l : List A) (x : A) → List·Memᴰ x l → p x ≡ true → List·Memᴰ x (filter p l)
   unfolding filter
   filter-in p [] x m e = absurd (List·Memᴰ·not-nil m)
@@ -86,6 +112,11 @@ module _ {A : Type 0} where
       (List·Memᴰ·cases-cons (rw t at m)))
       (λ f. let r = filter-out p l x (rw f at m) in (List·Memᴰ·tail (r .0), r .1))
 
+  pub times-out : (k : ℕ) (l : List A) (x : A) → List·Memᴰ x (times k l) → List·Memᴰ x l
+  unfolding times
+  times-out zero l x m = absurd (List·Memᴰ·not-nil m)
+  times-out (suc k) l x m = ⊎-elim (λ n. n) (times-out k l x) (List·Memᴰ·append-cases l m)
+
 module _ {A B : Type 0} where
   pub all-map : (p : B → Bool) (f : A → B) (l : List A) → all p (map f l) ≡ all (λ x. p (f x)) l
   unfolding all
@@ -96,6 +127,15 @@ module _ {A B : Type 0} where
   unfolding any
   any-map p f [] = refl
   any-map p f (x ∷ l) = ap (λ (y : Bool). p (f x) || y) (any-map p f l)
+
+  pub map-cong : (f g : A → B) (l : List A) → ((x : A) → List·Memᴰ x l → f x ≡ g x) → map f l ≡ map g l
+  map-cong f g [] h = refl
+  map-cong f g (x ∷ l) h = rw (h x (List·Memᴰ·head refl), map-cong f g l (λ y m. h y (List·Memᴰ·tail m))) refl
+
+  pub flatMap-cong : (f g : A → List B) (l : List A) → ((x : A) → List·Memᴰ x l → f x ≡ g x) → flatMap f l ≡ flatMap g l
+  unfolding flatMap
+  flatMap-cong f g [] h = refl
+  flatMap-cong f g (x ∷ l) h = rw (h x (List·Memᴰ·head refl), flatMap-cong f g l (λ y m. h y (List·Memᴰ·tail m))) refl
 
   pub flatMap-in : (f : A → List B) (l : List A) (x : A) (y : B) → List·Memᴰ x l → List·Memᴰ y (f x) → List·Memᴰ y (flatMap f l)
   unfolding flatMap
@@ -120,6 +160,14 @@ pub member-in : (a : ℕ) (l : List ℕ) → List·Memᴰ a l → member a l ≡
 unfolding member
 member-in a l m = any-intro (eqb a) l a m (eq-eqb a a refl)
 
+pub below-at : (n : ℕ) (l : List ℕ) → below n l ≡ true → (a : ℕ) → List·Memᴰ a l → a < n
+unfolding below
+below-at n l e a m = ltb-true a n (all-at (λ a. ltb a n) l e a m)
+
+pub below-in : (n : ℕ) (l : List ℕ) → ((a : ℕ) → List·Memᴰ a l → a < n) → below n l ≡ true
+unfolding below
+below-in n l h = all-intro (λ a. ltb a n) l (λ a m. lt-ltb a n (h a m))
+
 pub record Between (a k b : ℕ) : Type 0 where
   pub low : a ≤ b
   pub high : b < a + k
@@ -138,3 +186,14 @@ range-in a (suc k) b l h = by-bool (eqb a b) (λ t. List·Memᴰ·head (sym (eqb
   where
     less : eqb a b ≡ false → suc a ≤ b
     less f = let ne : a ≡ b → ⊥ = λ q. true-false (eq-eqb a b q) f in omega arith
+
+-- The first of what is left of a range.
+pub range-left : (a n : ℕ) → a < n → range a (n - a) ≡ a ∷ range (a + 1) (n - (a + 1))
+unfolding range
+range-left a n l =
+    let e : n - a ≡ suc (n - (a + 1)) = omega arith in
+    ap (range a) e ∙ ap (λ k. a ∷ range k (n - (a + 1))) (sym (add-one a))
+
+pub range-over : (a n : ℕ) → n ≤ a → range a (n - a) ≡ []
+unfolding range
+range-over a n l = let e : n - a ≡ 0 = omega arith in ap (range a) e

@@ -2,7 +2,7 @@
 use mathlib.Core.Bool.{Bool, true, false, _&&_, _||_, cond}
 use mathlib.Core.List.{List, [], _∷_, _++_}
 use Prim.Native.Nat.{ℕ, zero, suc}
-use lib.Dec.{eqb}
+use lib.Dec.{eqb, ltb}
 
 module _ {A : Type 0} where
   -- The test holds of every element.
@@ -28,6 +28,10 @@ module _ {A : Type 0} where
 -- The number stands in the list.
 unfoldable pub member : ℕ → List ℕ → Bool
 member a l = any (eqb a) l
+
+-- The numbers are all below n.
+unfoldable pub below : ℕ → List ℕ → Bool
+below n l = all (λ a. ltb a n) l
 
 -- The k numbers a, a + 1 and on.
 unfoldable pub range : ℕ → ℕ → List ℕ

@@ -5,14 +5,14 @@ use mathlib.Core.Logic.{_⊎_, ⊎-elim, _↔_}
 use mathlib.Core.Path.{_≡_, refl, sym, subst}
 use Prim.Native.Nat.{ℕ, zero, suc, _<_}
 use native.Mathlib.Omega.{arith}
-use borrow.Author.Tests.{eqb-true, eq-eqb, ltb-true, lt-ltb}
-use lib.Dec.{eqb, ltb}
+use borrow.Author.Tests.{eqb-true, eq-eqb}
+use lib.Dec.{eqb}
 use lib.ListN.{length}
 use Rattle.lists.specs.Lists.{all, filter, member, range}
 use Rattle.lists.proofs.Bools.{true-false, is-false, and-intro, and-left, and-right, or-cases, or-left, or-right, not-intro, not-elim}
-use Rattle.lists.proofs.Members.{all-at, all-intro, filter-in, filter-out, flatMap-in, flatMap-out, member-in, member-out, range-in, range-out}
+use Rattle.lists.proofs.Members.{below-at, below-in, all-at, all-intro, filter-in, filter-out, flatMap-in, flatMap-out, member-in, member-out, range-in, range-out}
 use Rattle.lists.proofs.Nodup.{nodup-cons, nodup-head, nodup-le, length-range}
-use Rattle.asp.specs.Program.{Program, below, wellFormed}
+use Rattle.asp.specs.Program.{Program, wellFormed}
 use Rattle.unfolding.specs.Graph.{edge, together}
 use Rattle.unfolding.specs.Chain.{linked, Chain, Passes, extends, longer, chainsOf, chains, found, passes}
 use Rattle.unfolding.proofs.Reach.{together-refl, together-sym}
@@ -33,14 +33,6 @@ found-in (a ∷ w) [] h = absurd (cons≢nil (Sublistᴰ·eq-nil h))
 found-in (a ∷ w) (x ∷ s) h =
     ⊎-elim (λ k. or-right (eqb a x && found w s) (found-in (a ∷ w) s k))
     (λ k. or-left (found (a ∷ w) s) (and-intro (eq-eqb a x (k .0)) (found-in w s (k .1)))) (Sublistᴰ·cases-cons-cons h)
-
-pub below-at : (n : ℕ) (l : List ℕ) → below n l ≡ true → (a : ℕ) → List·Memᴰ a l → a < n
-unfolding below
-below-at n l e a m = ltb-true a n (all-at (λ a. ltb a n) l e a m)
-
-pub below-in : (n : ℕ) (l : List ℕ) → ((a : ℕ) → List·Memᴰ a l → a < n) → below n l ≡ true
-unfolding below
-below-in n l h = all-intro (λ a. ltb a n) l (λ a m. lt-ltb a n (h a m))
 
 module _ (P : Program) where
   pub component-at : (w : List ℕ) → Chain P w → (a b : ℕ) → List·Memᴰ a w → List·Memᴰ b w → together P a b ≡ true

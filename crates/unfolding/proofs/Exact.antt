@@ -8,7 +8,7 @@ use borrow.Author.Tests.{eqb-true, eqb-false}
 use lib.Dec.{eqb}
 use Rattle.lists.specs.Lists.{all}
 use Rattle.lists.proofs.Bools.{by-bool, true-false, is-true, is-false, and-intro, and-left, and-right}
-use Rattle.lists.proofs.Members.{all-at, all-intro, all-fails}
+use Rattle.lists.proofs.Members.{below-in, all-at, all-intro, all-fails}
 use Rattle.lists.proofs.Nodup.{nodup-cons, nodup-reverse}
 use Rattle.lists.proofs.Sublists.{sublist-tail, mem-reverse}
 use Rattle.asp.specs.Program.{Program, State, wellFormed}
@@ -19,7 +19,6 @@ use Rattle.asp.proofs.Derived.{next, Fires, fires-in, fires-out, derives}
 use Rattle.unfolding.specs.Graph.{edge, together}
 use Rattle.unfolding.specs.Chain.{linked, Chain}
 use Rattle.unfolding.proofs.Reach.{edge-in, together-refl, together-sym, together-trans}
-use Rattle.unfolding.proofs.Chains.{below-in}
 use Rattle.unfolding.proofs.Current.{reads, copyValue, current, current-here, current-other, reads-same, reads-other}
 
 -- A chain read backwards: each atom has an edge from the next.

@@ -5,8 +5,8 @@ use mathlib.Core.List.{List, [], _∷_, map, flatMap}
 use mathlib.Core.Path.{_≡_, refl}
 use Prim.Native.Nat.{ℕ}
 use lib.ListN.{length}
-use Rattle.lists.specs.Lists.{all, any, filter, times, member, range}
-use Rattle.asp.specs.Program.{Rule, Program, State, outside, holds, below, bodyBelow, ruleBelow, wellFormed}
+use Rattle.lists.specs.Lists.{below, all, any, filter, times, member, range}
+use Rattle.asp.specs.Program.{Rule, Program, State, outside, holds, bodyBelow, ruleBelow, wellFormed}
 use Rattle.asp.specs.LeastModel.{consequences, rounds, leastModel}
 use Rattle.asp.specs.Settled.{definite, reduct, lawful, derived, isSettled}
 use Rattle.asp.specs.Count.{Verdict, empty, with, states, settledStates, count, verdict}

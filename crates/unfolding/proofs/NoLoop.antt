@@ -9,13 +9,12 @@ use native.Mathlib.Nat.{not-suc-le-zero}
 use native.Mathlib.Omega.{arith}
 use borrow.Author.Tests.{eqb-true}
 use lib.Dec.{eqb}
-use Rattle.lists.specs.Lists.{any, member}
+use Rattle.lists.specs.Lists.{below, any, member}
 use Rattle.lists.proofs.Bools.{and-left, and-right}
-use Rattle.lists.proofs.Members.{any-at, member-out}
+use Rattle.lists.proofs.Members.{below-at, any-at, member-out}
 use Rattle.lists.proofs.Nodup.{nodup-map-one}
-use Rattle.asp.specs.Program.{Body, Program, below, wellFormed}
+use Rattle.asp.specs.Program.{Body, Program, wellFormed}
 use Rattle.unfolding.specs.Unfolded.{Copy, Unfolded, last, keptFor, variable, copiesFrom, unfolded, needs, Leads, step, onwards, NoPositiveLoop}
-use Rattle.unfolding.proofs.Chains.{below-at}
 use Rattle.unfolding.proofs.Ancestors.{ancestors, ancestors-same, ancestors-less}
 use Rattle.unfolding.proofs.Numbering.{Entries, counted, variables-differ}
 use Rattle.unfolding.proofs.Bounds.{Source, earlier, final, source}

@@ -8,18 +8,18 @@ use native.Mathlib.Omega.{arith}
 use borrow.Author.Tests.{eqb-true, eqb-false, ltb-true, lt-ltb}
 use lib.Dec.{eqb, ltb}
 use lib.ListN.{length}
-use Rattle.lists.specs.Lists.{all, member}
+use Rattle.lists.specs.Lists.{below, all, member}
 use Rattle.lists.proofs.Bools.{by-bool, bool-ext, and-left}
-use Rattle.lists.proofs.Members.{all-map, all-cong, range-out}
+use Rattle.lists.proofs.Members.{below-at, all-map, all-cong, range-out}
 use Rattle.lists.proofs.Sublists.{mem-sublist, mem-reverse, sublist-reversed}
-use Rattle.asp.specs.Program.{Body, Program, State, below, outside, holds, wellFormed}
+use Rattle.asp.specs.Program.{Body, Program, State, outside, holds, wellFormed}
 use Rattle.asp.specs.Settled.{lawful, Settled}
 use Rattle.asp.proofs.Derived.{constraint-atoms}
 use Rattle.unfolding.specs.Chain.{Chain, Passes}
 use Rattle.unfolding.specs.Unfolded.{Copy, Unfolded, last, renamed, keptFor, variable, copiesFrom, unfolded}
 use Rattle.unfolding.specs.Clauses.{Literal, variableOf, Clause, variables, signedWords, readWords}
 use Rattle.unfolding.specs.Faithful.{Assignment, cut, clausesOf, variablesOf, Faithful}
-use Rattle.unfolding.proofs.Chains.{below-at, chain-one}
+use Rattle.unfolding.proofs.Chains.{chain-one}
 use Rattle.unfolding.proofs.Current.{current, current-other}
 use Rattle.unfolding.proofs.Grounded.{current-stable, settled-current}
 use Rattle.unfolding.proofs.Copies.{Follows, outside-last, solves-follows, follows-solves, agrees-none, last-value}

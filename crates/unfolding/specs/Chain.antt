@@ -5,8 +5,8 @@ use mathlib.Core.Logic.{_≢_}
 use mathlib.Core.Path.{_≡_}
 use Prim.Native.Nat.{ℕ, zero, suc}
 use lib.Dec.{eqb}
-use Rattle.lists.specs.Lists.{all, filter, member, range}
-use Rattle.asp.specs.Program.{Program, below}
+use Rattle.lists.specs.Lists.{below, all, filter, member, range}
+use Rattle.asp.specs.Program.{Program}
 use Rattle.unfolding.specs.Graph.{edge, together}
 
 -- Each atom has an edge to the next.

@@ -4,7 +4,8 @@ use mathlib.Core.List.{List, List·Memᴰ}
 use mathlib.Core.Logic.{_↔_}
 use mathlib.Core.Path.{_≡_}
 use Prim.Native.Nat.{ℕ, _≤_, _<_}
-use Rattle.asp.specs.Program.{Program, State, below, wellFormed}
+use Rattle.lists.specs.Lists.{below}
+use Rattle.asp.specs.Program.{Program, State, wellFormed}
 use Rattle.unfolding.specs.Graph.{Component, together, component}
 use Rattle.unfolding.specs.Chain.{Chain, Passes, chains, passes}
 use Rattle.unfolding.specs.Default.{defaultSequence}

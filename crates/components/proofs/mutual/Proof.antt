@@ -1,0 +1,42 @@
+-- `components::mutual` meets its contract, one law for each way through it.
+use borrow.Author.Needs.{needs}
+use Rattle.components.proofs.Naming.{mutual-yes, mutual-no}
+use Rattle.components.proofs.mutual.Statement.{statement}
+use Rattle.components.proofs.mutual.Tie as tie
+
+mul-has : tie.Need-mul-has
+mul-has c = search needs
+
+element-copy-out-has : tie.Need-element-copy-out-has
+element-copy-out-has c = search needs
+
+has-requires : tie.Need-has-requires
+has-requires c κs = search needs
+
+mul-has-2 : tie.Need-mul-has-2
+mul-has-2 c = search needs
+
+element-copy-out-has-2 : tie.Need-element-copy-out-has-2
+element-copy-out-has-2 c = search needs
+
+has-requires-2 : tie.Need-has-requires-2
+has-requires-2 c κs = search needs
+
+returns : tie.Need-returns
+returns c = search (needs, mutual-yes)
+
+returns-2 : tie.Need-returns-2
+returns-2 c = search (needs, mutual-no)
+
+pub mutual-spec : {M : Type 1} → statement M
+mutual-spec =
+    tie.close
+    (tie.spec
+    mul-has
+    element-copy-out-has
+    has-requires
+    mul-has-2
+    element-copy-out-has-2
+    has-requires-2
+    returns
+    returns-2)

@@ -1,0 +1,3 @@
+pub mod Default
+pub mod Reading
+pub mod Writing

@@ -1,0 +1,50 @@
+-- `core::default_sequence` meets its contract, one law for each way through it.
+use native.Mathlib.Omega.{arith}
+use borrow.Author.Needs.{needs}
+use Rattle.core.proofs.Writing.{room-refused, entries-short, entries-room, default-full, default-done}
+use Rattle.core.proofs.default_sequence.Statement.{statement}
+use Rattle.core.proofs.default_sequence.Tie as tie
+
+analyse-requires : tie.Need-analyse-requires
+analyse-requires c κs = search needs
+
+returns : tie.Need-returns
+returns c = search (needs, room-refused)
+
+default-entries-requires : tie.Need-default-entries-requires
+default-entries-requires c κs = entries-room _ _ _ (c .before .before .before .analyse .ensures) (c .before .before .if1 .left) (search needs) (search needs)
+
+add-if2 : tie.Need-add-if2
+add-if2 c = omega (arith, c .default-entries .ensures, entries-short _ _ _ (c .before .before .before .before .analyse .ensures) (c .before .before .before .if1 .left) (search needs) (search needs))
+
+returns-2 : tie.Need-returns-2
+returns-2 c = search (needs, default-full)
+
+put-header-requires : tie.Need-put-header-requires
+put-header-requires c κs = search needs
+
+put-blocks-requires : tie.Need-put-blocks-requires
+put-blocks-requires c κs =
+    let few = entries-short _ _ _ (c .before .before .before .before .before .before .before .before .before .before .before .analyse .ensures) (c .before .before .before .before .before .before .before .before .before .before .if1 .left) (search needs) (search needs) in
+    let room = entries-room _ _ _ (c .before .before .before .before .before .before .before .before .before .before .before .analyse .ensures) (c .before .before .before .before .before .before .before .before .before .before .if1 .left) (search needs) (search needs) in
+    (room .0, omega (arith, c .before .before .before .before .put-header .ensures .moved))
+
+same-length : tie.Need-same-length
+same-length c = search needs
+
+returns-3 : tie.Need-returns-3
+returns-3 c = search (needs, default-done)
+
+pub default-sequence-spec : {M : Type 1} → statement M
+default-sequence-spec =
+    tie.close
+    (tie.spec
+    analyse-requires
+    returns
+    default-entries-requires
+    add-if2
+    returns-2
+    put-header-requires
+    put-blocks-requires
+    same-length
+    returns-3)

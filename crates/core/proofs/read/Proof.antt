@@ -1,0 +1,17 @@
+-- `core::read` meets its contract, one law for each way through it.
+use borrow.Author.Needs.{needs}
+use Rattle.core.proofs.Reading.{read-refused, read-header}
+use Rattle.core.proofs.read.Statement.{statement}
+use Rattle.core.proofs.read.Tie as tie
+
+analyse-requires : tie.Need-analyse-requires
+analyse-requires c κs = search needs
+
+returns : tie.Need-returns
+returns c = search (needs, read-refused)
+
+returns-2 : tie.Need-returns-2
+returns-2 c = search (needs, read-header)
+
+pub read-spec : {M : Type 1} → statement M
+read-spec = tie.close (tie.spec analyse-requires returns returns-2)

@@ -1,0 +1,4 @@
+pub mod Outcome
+pub mod Outputs
+pub mod Operations
+pub mod Bodies

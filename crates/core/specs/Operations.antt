@@ -1,0 +1,38 @@
+-- The questions of each operation ("The questions" of document 01), in their order.
+use mathlib.Core.List.{List}
+use mathlib.Core.Path.{_≡_}
+use Prim.Native.Nat.{ℕ}
+use lib.Dec.{leb, ltb}
+use lib.ListN.{length}
+use Rattle.unfolding.specs.Chain.{passes}
+use Rattle.sheet.specs.Questions.{ask, _then_}
+use Rattle.sheet.specs.Format.{atomsByte, recordsByte}
+use Rattle.sheet.specs.Sequence.{sequenceFits, entries}
+use Rattle.sheet.specs.Sheet.{program}
+use Rattle.sheet.specs.declared.Limits.{Limits}
+use Rattle.components.specs.Table.{sheetQuestions}
+use Rattle.core.specs.Outputs.{componentBytes, defaultBytes}
+
+-- Reading: 1 to 7.
+abbrev pub readQuestions : Limits → List ℕ → ℕ
+readQuestions L s = sheetQuestions L s
+
+-- Showing a body: 1 to 7, then B.
+abbrev pub bodyQuestions : Limits → ℕ → List ℕ → ℕ
+bodyQuestions L i s = sheetQuestions L s then ask (ltb i (recordsByte s)) 12
+
+-- Finding components and the default sequence: 1 to 7, then 10.
+abbrev pub componentsQuestions : Limits → ℕ → List ℕ → ℕ
+componentsQuestions L room s = sheetQuestions L s then ask (leb (length (componentBytes s)) room) 10
+
+abbrev pub defaultQuestions : Limits → ℕ → List ℕ → ℕ
+defaultQuestions L room s = sheetQuestions L s then ask (leb (length (defaultBytes s)) room) 10
+
+-- Testing a sequence: 1 to 9.
+abbrev pub testQuestions : Limits → List ℕ → List ℕ → ℕ
+testQuestions L s q = sheetQuestions L s then ask (sequenceFits L (atomsByte s) q) 8 then ask (passes (program s) (entries q)) 9
+
+-- What the default sequence writes is accepted by questions 8 and 9, where the entries allowed are as many as
+-- all atoms in components of the largest size need.
+abbrev pub DefaultAccepted : Limits → Type 0
+DefaultAccepted L = (s : List ℕ) → sheetQuestions L s ≡ 0 → testQuestions L s (defaultBytes s) ≡ 0

@@ -1,0 +1,40 @@
+-- The answer of an operation in document 01's terms: the number of the refusal, or the values of a success.
+use mathlib.Core.Bool.{cond}
+use mathlib.Core.List.{List, [], _∷_, _++_}
+use mathlib.Core.Path.{_≡_}
+use Prim.Native.Nat.{ℕ}
+use lib.Dec.{eqb}
+use lib.ListN.{length, drop}
+use Rattle.core.specs.declared.ReadAnswer.{ReadAnswer}
+use Rattle.core.specs.declared.ReadAnswer.the-variants as read
+use Rattle.core.specs.declared.BodyAnswer.{BodyAnswer}
+use Rattle.core.specs.declared.BodyAnswer.the-variants as body
+use Rattle.core.specs.declared.WriteAnswer.{WriteAnswer}
+use Rattle.core.specs.declared.WriteAnswer.the-variants as write
+
+pub data Outcome : Type 0 where
+  refused : ℕ → Outcome
+  answered : List ℕ → Outcome
+
+-- The first no of the questions, or the values.
+unfoldable pub outcome : ℕ → List ℕ → Outcome
+outcome q values = cond (eqb q 0) (answered values) (refused q)
+
+-- What each answer of the code stands for.
+abbrev pub readOf : ReadAnswer → Outcome
+readOf (read.Refused q) = refused q
+readOf (read.Header n m) = answered (n ∷ m ∷ [])
+
+abbrev pub bodyOf : BodyAnswer → Outcome
+bodyOf (body.Refused q) = refused q
+bodyOf (body.Positives p) = answered (p ∷ [])
+
+abbrev pub writeOf : WriteAnswer → Outcome
+writeOf (write.Refused q) = refused q
+writeOf (write.Length l) = answered (l ∷ [])
+
+-- An operation that writes: it answers the length written, and the buffer holds the output and, behind it, what it held;
+-- on a refusal it is as it was.
+pub record Writes {A : Type 0} (q : ℕ) (output old new : List A) (r : WriteAnswer) : Type 0 where
+  pub says : writeOf r ≡ outcome q (length output ∷ [])
+  pub leaves : new ≡ cond (eqb q 0) (output ++ drop (length output) old) old

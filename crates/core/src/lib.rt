@@ -1,0 +1,204 @@
+// The operations, with their limits as parameters.
+use bits::byte_at;
+use components::analyse;
+use outputs::put_blocks;
+use outputs::put_names;
+use sheet::Limits;
+use sheet::next_record;
+use sheet::record_end;
+use writer::put;
+ghost use mathlib.Core.Path.{_≡_};
+ghost use mathlib.Core.List.{_∷_, []};
+ghost use mathlib.Core.Bool.{cond};
+ghost use Prim.Native.Nat.{ℕ, _+_, _≤_, _<_};
+ghost use lib.Dec.{eqb};
+ghost use lib.ListN.{length};
+ghost use Rattle.sheet.specs.Format.{atomsByte, recordsByte, positives};
+ghost use Rattle.core.specs.Outcome.{readOf, bodyOf, outcome, Writes};
+ghost use Rattle.core.specs.Outputs.{componentBytes, defaultBytes, sequenceHeader, place, stretch};
+ghost use Rattle.outputs.specs.Names.{blocksOf};
+ghost use Rattle.writer.specs.Wrote.{Wrote};
+ghost use Rattle.sheet.specs.Sheet.{Walk};
+ghost use Rattle.core.specs.Bodies.{Placed, BodyFound};
+ghost use Rattle.core.specs.Operations.{readQuestions, bodyQuestions, componentsQuestions, defaultQuestions};
+
+// Reading: the refusal, or the numbers of atoms and records.
+pub enum ReadAnswer {
+    Refused(u32),
+    Header(usize, usize),
+}
+
+// Showing a body: the refusal, or the number of positive atoms.
+pub enum BodyAnswer {
+    Refused(u32),
+    Positives(usize),
+}
+
+// An operation that writes: the refusal, or the length written.
+pub enum WriteAnswer {
+    Refused(u32),
+    Length(usize),
+}
+
+// Reading a sheet.
+pub fn read(limits: Limits, s: &[u8]) -> ReadAnswer
+    requires { ⌜ limits .atoms ≤ 64 ⌝ }
+    ensures { λ r. ⌜ readOf r ≡ outcome (readQuestions limits (now (s .entry))) (atomsByte (now (s .entry)) ∷ recordsByte (now (s .entry)) ∷ []) ⌝ }
+{
+    let a = analyse(limits, s);
+    let q = a.refusal;
+    if q != 0 {
+        return ReadAnswer::Refused(q);
+    }
+    let n = a.atoms;
+    let m = a.records;
+    ReadAnswer::Header(n, m)
+}
+
+// Where a record stands, of m records that have passed.
+fn record_place(s: &[u8], n: usize, m: usize, number: usize) -> usize
+    requires { ⌜ Walk (now s) n m 5 × (number < m) ⌝ }
+    ensures { λ r. ⌜ Placed (now (s .entry)) n number r ⌝ }
+{
+    let mut at = 5;
+    let mut left = m;
+    let mut i = number;
+    while 0 < i {
+        at = next_record(s, at, left, n);
+        left -= 1;
+        i -= 1;
+    }
+    at
+}
+
+// The refusal of showing a body, or 0 with where the body starts and ends and its number of positive atoms.
+pub struct BodyPlace {
+    pub refusal: u32,
+    pub start: usize,
+    pub end: usize,
+    pub positives: usize,
+}
+
+fn no_body(q: u32) -> BodyPlace
+    ensures { λ r. ⌜ r .refusal ≡ q ⌝ }
+{
+    BodyPlace {
+        refusal: q,
+        start: 0,
+        end: 0,
+        positives: 0,
+    }
+}
+
+pub fn find_body(limits: Limits, s: &[u8], number: usize) -> BodyPlace
+    requires { ⌜ limits .atoms ≤ 64 ⌝ }
+    ensures { λ r. ⌜ BodyFound limits number (now (s .entry)) r ⌝ }
+{
+    let a = analyse(limits, s);
+    let q = a.refusal;
+    if q != 0 {
+        return no_body(q);
+    }
+    let n = a.atoms;
+    let m = a.records;
+    if m <= number {
+        return no_body(12);
+    }
+    let at = record_place(s, n, m, number);
+    let end = record_end(s, at);
+    let positives = byte_at(s, at + 3);
+    let start = at + 4;
+    BodyPlace {
+        refusal: 0,
+        start,
+        end,
+        positives,
+    }
+}
+
+// Showing a body: the refusal, or p.
+pub fn body(limits: Limits, s: &[u8], number: usize) -> BodyAnswer
+    requires { ⌜ limits .atoms ≤ 64 ⌝ }
+    ensures { λ r. ⌜ bodyOf r ≡ outcome (bodyQuestions limits number (now (s .entry))) (positives (now (s .entry)) (place number (now (s .entry))) ∷ []) ⌝ }
+{
+    let b = find_body(limits, s, number);
+    let q = b.refusal;
+    if q != 0 {
+        return BodyAnswer::Refused(q);
+    }
+    let p = b.positives;
+    BodyAnswer::Positives(p)
+}
+
+// Showing a body: its stretch of the sheet, empty on a refusal.
+pub fn body_stretch(limits: Limits, s: &[u8], number: usize) -> &[u8]
+    requires { ⌜ limits .atoms ≤ 64 ⌝ }
+    ensures { λ r. ⌜ now r ≡ cond (eqb (bodyQuestions limits number (now (s .entry))) 0) (stretch number (now (s .entry))) [] ⌝ }
+{
+    let b = find_body(limits, s, number);
+    let q = b.refusal;
+    if q != 0 {
+        return &s[0..0];
+    }
+    let start = b.start;
+    let end = b.end;
+    &s[start..end]
+}
+
+// Finding components: for each atom one byte, the smallest atom of its component.
+pub fn components(limits: Limits, s: &[u8], out: &mut [u8]) -> WriteAnswer
+    requires { ⌜ limits .atoms ≤ 64 ⌝ }
+    ensures { λ r. ⌜ Writes (componentsQuestions limits (length (now (out .entry))) (now (s .entry))) (componentBytes (now (s .entry))) (now (out .entry)) (now (out .exit)) r ⌝ }
+{
+    let a = analyse(limits, s);
+    let q = a.refusal;
+    if q != 0 {
+        return WriteAnswer::Refused(q);
+    }
+    let n = a.atoms;
+    if out.len() < n {
+        return WriteAnswer::Refused(10);
+    }
+    let names = a.names;
+    let length = put_names(out, 0, &names, n);
+    WriteAnswer::Length(length)
+}
+
+// The header of a sequence of t entries.
+fn put_header(out: &mut [u8], t: usize) -> usize
+    ensures { λ r. ⌜ Wrote (now (out .entry)) 0 (sequenceHeader t) (now (out .exit)) r ⌝ }
+{
+    let a = put(out, 0, 1);
+    let b = put(out, a, (t / 256 % 256) as u8);
+    put(out, b, (t % 256) as u8)
+}
+
+// How many entries the default sequence has.
+fn default_entries(names: &[u8; 64], n: usize) -> usize
+    requires { ⌜ (n ≤ 64) × (length (blocksOf (now names) n) < 4294967296) ⌝ }
+    ensures { λ r. ⌜ r ≡ length (blocksOf (now (names .entry)) n) ⌝ }
+{
+    let mut none = [0u8; 0];
+    put_blocks(&mut none, 0, names, n)
+}
+
+// The default sequence, header included.
+pub fn default_sequence(limits: Limits, s: &[u8], out: &mut [u8]) -> WriteAnswer
+    requires { ⌜ (limits .atoms ≤ 64) × (limits .component ≤ 64) ⌝ }
+    ensures { λ r. ⌜ Writes (defaultQuestions limits (length (now (out .entry))) (now (s .entry))) (defaultBytes (now (s .entry))) (now (out .entry)) (now (out .exit)) r ⌝ }
+{
+    let a = analyse(limits, s);
+    let q = a.refusal;
+    if q != 0 {
+        return WriteAnswer::Refused(q);
+    }
+    let n = a.atoms;
+    let names = a.names;
+    let t = default_entries(&names, n);
+    if out.len() < t + 3 {
+        return WriteAnswer::Refused(10);
+    }
+    let at = put_header(out, t);
+    let length = put_blocks(out, at, &names, n);
+    WriteAnswer::Length(length)
+}

@@ -1,0 +1,85 @@
+// The operations for C and Rust: include/rulesheet.h declares them.
+use core::ReadAnswer;
+use core::WriteAnswer;
+use office::components;
+use office::default_sequence;
+use office::find_body;
+use office::read;
+ghost use mathlib.Core.Path.{_≡_};
+ghost use Prim.Native.Nat.{_+_, _-_};
+ghost use lib.ListN.{length};
+ghost use Rattle.sheet.specs.Format.{atomsByte, recordsByte, positives, end};
+ghost use Rattle.core.specs.Outputs.{componentBytes, defaultBytes, place};
+ghost use Rattle.core.specs.Operations.{readQuestions, bodyQuestions, componentsQuestions, defaultQuestions};
+ghost use Rattle.office.specs.Office.{office};
+ghost use Rattle.exports.specs.Exported.{Two, Three, Output};
+
+// Reading.
+#[no_mangle]
+pub extern "C" fn rulesheet_read(sheet: &[u8], atoms: &mut usize, records: &mut usize) -> u32
+    ensures { λ r. ⌜ Two (readQuestions office (now (sheet .entry))) r (atomsByte (now (sheet .entry))) (recordsByte (now (sheet .entry))) (now (atoms .entry)) (now (records .entry)) (now (atoms .exit)) (now (records .exit)) ⌝ }
+{
+    let answer = read(sheet);
+    match answer {
+        ReadAnswer::Refused(q) => q,
+        ReadAnswer::Header(n, m) => {
+            *atoms = n;
+            *records = m;
+            0
+        }
+    }
+}
+
+// Showing a body: p, and where its stretch of the sheet starts and how long it is.
+#[no_mangle]
+pub extern "C" fn rulesheet_body(
+    sheet: &[u8],
+    number: usize,
+    p: &mut usize,
+    offset: &mut usize,
+    size: &mut usize,
+) -> u32
+    ensures { λ r. ⌜ Three (bodyQuestions office number (now (sheet .entry))) r (positives (now (sheet .entry)) (place number (now (sheet .entry)))) (place number (now (sheet .entry)) + 4) (end (now (sheet .entry)) (place number (now (sheet .entry))) - (place number (now (sheet .entry)) + 4)) (now (p .entry)) (now (offset .entry)) (now (size .entry)) (now (p .exit)) (now (offset .exit)) (now (size .exit)) ⌝ }
+{
+    let b = find_body(sheet, number);
+    let q = b.refusal;
+    if q != 0 {
+        return q;
+    }
+    let start = b.start;
+    let end = b.end;
+    *p = b.positives;
+    *offset = start;
+    *size = end - start;
+    0
+}
+
+// Finding components.
+#[no_mangle]
+pub extern "C" fn rulesheet_components(sheet: &[u8], out: &mut [u8], written: &mut usize) -> u32
+    ensures { λ r. ⌜ Output (componentsQuestions office (length (now (out .entry))) (now (sheet .entry))) r (componentBytes (now (sheet .entry))) (now (out .entry)) (now (out .exit)) (now (written .entry)) (now (written .exit)) ⌝ }
+{
+    let answer = components(sheet, out);
+    match answer {
+        WriteAnswer::Refused(q) => q,
+        WriteAnswer::Length(l) => {
+            *written = l;
+            0
+        }
+    }
+}
+
+// The default sequence.
+#[no_mangle]
+pub extern "C" fn rulesheet_default(sheet: &[u8], out: &mut [u8], written: &mut usize) -> u32
+    ensures { λ r. ⌜ Output (defaultQuestions office (length (now (out .entry))) (now (sheet .entry))) r (defaultBytes (now (sheet .entry))) (now (out .entry)) (now (out .exit)) (now (written .entry)) (now (written .exit)) ⌝ }
+{
+    let answer = default_sequence(sheet, out);
+    match answer {
+        WriteAnswer::Refused(q) => q,
+        WriteAnswer::Length(l) => {
+            *written = l;
+            0
+        }
+    }
+}

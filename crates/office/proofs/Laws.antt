@@ -1,0 +1,19 @@
+-- The office's limits suit the operations.
+use mathlib.Core.Path.{_≡_, ap}
+use Prim.Native.Nat.{_≤_}
+use native.Mathlib.Omega.{arith}
+use lib.Dec.{lit<, lit≤}
+use Rattle.sheet.specs.declared.Limits.{Limits}
+use Rattle.core.specs.Operations.{DefaultAccepted}
+use Rattle.core.proofs.Default.{default-accepted}
+use Rattle.office.specs.Office.{office}
+
+pub few-atoms : (L : Limits) → L ≡ office → L .atoms ≤ 64
+few-atoms L e = let k = ap (λ (L : Limits). L .atoms) e in omega arith
+
+pub small-components : (L : Limits) → L ≡ office → L .component ≤ 64
+small-components L e = let k = ap (λ (L : Limits). L .component) e in omega arith
+
+-- What the office's default sequence writes is accepted by questions 8 and 9.
+pub office-default-accepted : DefaultAccepted office
+office-default-accepted = default-accepted office (lit≤ tt) (lit< tt)

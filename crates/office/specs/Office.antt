@@ -1,0 +1,5 @@
+-- The office's limits: 64 atoms, 128 records, 10 atoms a component, 640 entries.
+use Rattle.sheet.specs.declared.Limits.{Limits}
+
+abbrev pub office : Limits
+office = record { atoms = 64; records = 128; component = 10; entries = 640 }

@@ -1,0 +1,70 @@
+// The public operations, with the office's limits. Each takes any bytes and finishes.
+use core::BodyAnswer;
+use core::BodyPlace;
+use core::ReadAnswer;
+use core::WriteAnswer;
+use sheet::Limits;
+ghost use mathlib.Core.Path.{_≡_};
+ghost use mathlib.Core.List.{_∷_, []};
+ghost use mathlib.Core.Bool.{cond};
+ghost use lib.Dec.{eqb};
+ghost use lib.ListN.{length};
+ghost use Rattle.sheet.specs.Format.{atomsByte, recordsByte, positives};
+ghost use Rattle.core.specs.Outcome.{readOf, bodyOf, outcome, Writes};
+ghost use Rattle.core.specs.Bodies.{BodyFound};
+ghost use Rattle.core.specs.Outputs.{componentBytes, defaultBytes, place, stretch};
+ghost use Rattle.core.specs.Operations.{readQuestions, bodyQuestions, componentsQuestions, defaultQuestions};
+ghost use Rattle.office.specs.Office.{office};
+
+fn limits() -> Limits
+    ensures { λ r. ⌜ r ≡ office ⌝ }
+{
+    Limits {
+        atoms: 64,
+        records: 128,
+        component: 10,
+        entries: 640,
+    }
+}
+
+// Reading: the refusal, or the numbers of atoms and records.
+pub fn read(s: &[u8]) -> ReadAnswer
+    ensures { λ r. ⌜ readOf r ≡ outcome (readQuestions office (now (s .entry))) (atomsByte (now (s .entry)) ∷ recordsByte (now (s .entry)) ∷ []) ⌝ }
+{
+    core::read(limits(), s)
+}
+
+// Showing a body: the refusal, or the number of positive atoms.
+pub fn body(s: &[u8], number: usize) -> BodyAnswer
+    ensures { λ r. ⌜ bodyOf r ≡ outcome (bodyQuestions office number (now (s .entry))) (positives (now (s .entry)) (place number (now (s .entry))) ∷ []) ⌝ }
+{
+    core::body(limits(), s, number)
+}
+
+// Showing a body: its stretch of the sheet, empty on a refusal.
+pub fn body_stretch(s: &[u8], number: usize) -> &[u8]
+    ensures { λ r. ⌜ now r ≡ cond (eqb (bodyQuestions office number (now (s .entry))) 0) (stretch number (now (s .entry))) [] ⌝ }
+{
+    core::body_stretch(limits(), s, number)
+}
+
+// Finding components: for each atom one byte, the smallest atom of its component.
+pub fn components(s: &[u8], out: &mut [u8]) -> WriteAnswer
+    ensures { λ r. ⌜ Writes (componentsQuestions office (length (now (out .entry))) (now (s .entry))) (componentBytes (now (s .entry))) (now (out .entry)) (now (out .exit)) r ⌝ }
+{
+    core::components(limits(), s, out)
+}
+
+// The default sequence, header included.
+pub fn default_sequence(s: &[u8], out: &mut [u8]) -> WriteAnswer
+    ensures { λ r. ⌜ Writes (defaultQuestions office (length (now (out .entry))) (now (s .entry))) (defaultBytes (now (s .entry))) (now (out .entry)) (now (out .exit)) r ⌝ }
+{
+    core::default_sequence(limits(), s, out)
+}
+
+// Showing a body: the refusal, or where its stretch of the sheet starts and ends.
+pub fn find_body(s: &[u8], number: usize) -> BodyPlace
+    ensures { λ r. ⌜ BodyFound office number (now (s .entry)) r ⌝ }
+{
+    core::find_body(limits(), s, number)
+}

@@ -1,0 +1,126 @@
+-- Laws of walks over the records of a sheet that has passed questions 1 to 6, and its program is well formed.
+use mathlib.Core.Bool.{Bool, true, false, _&&_}
+use mathlib.Core.List.{List, List·Memᴰ, List·Memᴰ·not-nil, List·Memᴰ·cases-cons, Memᴰ·of-map}
+use mathlib.Core.Logic.{⊎-elim}
+use mathlib.Core.Path.{_≡_, refl, sym, _∙_, subst}
+use Prim.Native.Nat.{ℕ, zero, suc, _≤_, _<_}
+use native.Mathlib.Numerals.{sub-one}
+use native.Mathlib.Omega.{arith}
+use borrow.Author.Tests.{eqb-true, eq-eqb, ne-eqb, leb-true}
+use lib.Dec.{eqb, ltb, leb}
+use lib.ListN.{length}
+use Rattle.lists.specs.Lists.{below, filter}
+use Rattle.lists.proofs.Bools.{by-bool, true-false, and-intro, and-left, and-right, or-cases}
+use Rattle.lists.proofs.Members.{all-intro, filter-out}
+use Rattle.asp.specs.Program.{bodyBelow, ruleBelow, wellFormed}
+use Rattle.sheet.specs.Questions.{ask, _then_}
+use Rattle.sheet.specs.Format.{end, posOf, negOf, kind, head, complete, kindFits, kindPasses, rising, listFits, listsFit, limited, opens, measured, recordQuestions, recordsQuestions, formQuestions, atomsByte, recordsByte}
+use Rattle.sheet.specs.Sheet.{Record, recordAt, recordsFrom, records, rulesOf, constraintsOf, programOf, program, Known, Walk, Stepped}
+use Rattle.sheet.specs.declared.Limits.{Limits}
+use Rattle.sheet.proofs.Records.{complete-out}
+
+-- Questions that are all passed.
+pub asked-yes : (b : Bool) (q r : ℕ) → (q ≡ 0 → ⊥) → ask b q then r ≡ 0 → (b ≡ true) × (r ≡ 0)
+unfolding ask _then_
+asked-yes true q r h e = (refl, e)
+asked-yes false q r h e = absurd (h (sym (rw (ne-eqb q 0 h) refl) ∙ e))
+
+pub ask-passed : (b : Bool) (q : ℕ) → (q ≡ 0 → ⊥) → ask b q ≡ 0 → b ≡ true
+unfolding ask
+ask-passed true q h e = refl
+ask-passed false q h e = absurd (h e)
+
+pub then-passed : (q r : ℕ) → q then r ≡ 0 → (q ≡ 0) × (r ≡ 0)
+unfolding _then_
+then-passed q r e = by-bool (eqb q 0) (λ t. (eqb-true q 0 t, rw t at e)) (λ f. let z : q ≡ 0 = rw f at e in absurd (true-false (eq-eqb q 0 z) f))
+
+known : (n : ℕ) (s : List ℕ) (at : ℕ) → recordQuestions n s at ≡ 0 → Known s n at
+unfolding recordQuestions
+known n s at e =
+    let a = asked-yes (complete s at) 4 _ (λ e. omega arith) e in
+    let b = asked-yes (kindPasses n s at) 5 _ (λ e. omega arith) (a .1) in
+    record { whole = complete-out s at (a .0); kinds = b .0; lists = ask-passed (listsFit n s at) 6 (λ e. omega arith) (b .1) }
+
+stepped : (s : List ℕ) (n left at : ℕ) → Walk s n left at → 0 < left → Stepped s n left at (end s at)
+unfolding recordsQuestions recordsFrom
+stepped s n zero at W l = absurd (omega arith)
+stepped s n (suc left) at W l =
+    let p = then-passed (recordQuestions n s at) (recordsQuestions left n s (end s at)) (W .passed) in
+    record { is = refl; known = known n s at (p .0); rest = rw (sub-one (suc left)) (record { passed = p .1 }); list = rw (sub-one (suc left)) refl }
+
+pub walk-inside : (s : List ℕ) (n left at : ℕ) → Walk s n left at → 0 < left → at < length s
+walk-inside s n left at W l = stepped s n left at W l .known .whole .starts
+
+pub walk-known : (s : List ℕ) (n left at : ℕ) → Walk s n left at → 0 < left → Known s n at
+walk-known s n left at W l = stepped s n left at W l .known
+
+pub walk-step : (s : List ℕ) (n left at r : ℕ) → Walk s n left at → 0 < left → r ≡ end s at → Stepped s n left at r
+walk-step s n left at r W l e = subst (Stepped s n left at) (sym e) (stepped s n left at W l)
+
+-- What an accepted form is known by.
+pub record Formed (L : Limits) (s : List ℕ) : Type 0 where
+  pub long : 5 ≤ length s
+  pub atoms : atomsByte s ≤ L .atoms
+  pub count : recordsByte s ≤ L .records
+  pub walk : Walk s (atomsByte s) (recordsByte s) 5
+
+pub formed : (L : Limits) (s : List ℕ) → formQuestions L s ≡ 0 → Formed L s
+unfolding formQuestions opens limited
+formed L s e =
+    let a = asked-yes (opens s) 1 _ (λ e. omega arith) e in
+    let b = asked-yes (measured s) 2 _ (λ e. omega arith) (a .1) in
+    let c = asked-yes (limited L s) 3 _ (λ e. omega arith) (b .1) in
+    record {
+      long = leb-true 5 (length s) (and-left (leb 5 (length s)) _ (a .0));
+      atoms = leb-true (atomsByte s) (L .atoms) (and-left (leb (atomsByte s) (L .atoms)) (leb (recordsByte s) (L .records)) (c .0));
+      count = leb-true (recordsByte s) (L .records) (and-right (leb (atomsByte s) (L .atoms)) (leb (recordsByte s) (L .records)) (c .0));
+      walk = record { passed = c .1 };
+    }
+
+-- The records of a walk name atoms below n.
+pub record Sound (n : ℕ) (r : Record) : Type 0 where
+  pub kinds : kindFits n (r .kind) (r .head) ≡ true
+  pub atoms : bodyBelow n (r .body) ≡ true
+
+sound : (s : List ℕ) (n at : ℕ) → Known s n at → Sound n (recordAt s at)
+unfolding recordAt kindPasses listsFit listFits bodyBelow
+sound s n at K =
+    record {
+      kinds = K .kinds;
+      atoms = and-intro
+          (and-left (below n (posOf s at)) (rising (posOf s at)) (and-left (listFits n (posOf s at)) (listFits n (negOf s at)) (K .lists)))
+          (and-left (below n (negOf s at)) (rising (negOf s at)) (and-right (listFits n (posOf s at)) (listFits n (negOf s at)) (K .lists)));
+    }
+
+pub walk-sound : (s : List ℕ) (n left at : ℕ) → Walk s n left at → (r : Record) → List·Memᴰ r (recordsFrom left s at) → Sound n r
+unfolding recordsFrom recordsQuestions
+walk-sound s n zero at W r m = absurd (List·Memᴰ·not-nil m)
+walk-sound s n (suc left) at W r m =
+    let p = then-passed (recordQuestions n s at) (recordsQuestions left n s (end s at)) (W .passed) in
+    ⊎-elim (λ e. subst (Sound n) (sym e) (sound s n at (known n s at (p .0)))) (λ k. walk-sound s n left (end s at) (record { passed = p .1 }) r k)
+    (List·Memᴰ·cases-cons m)
+
+pub walk-formed : (s : List ℕ) (n m : ℕ) → Walk s n m 5 → wellFormed (programOf n (recordsFrom m s 5)) ≡ true
+unfolding programOf wellFormed rulesOf constraintsOf ruleBelow kindFits
+walk-formed s n m W =
+    and-intro
+    (all-intro (ruleBelow n) (rulesOf rs) (λ r k. let u = Memᴰ·of-map (λ (r : Record). record { head = r .head; body = r .body }) (filter (λ r. eqb (r .kind) 0) rs) k in
+    let f = filter-out (λ (r : Record). eqb (r .kind) 0) rs (u .0) (u .1) in
+    subst (λ x. ruleBelow n x ≡ true) (u .2) (and-intro (low (u .0) (f .1) (walk-sound s n m 5 W (u .0) (f .0) .kinds)) (walk-sound s n m 5 W (u .0) (f .0) .atoms))))
+    (all-intro (bodyBelow n) (constraintsOf rs) (λ b k. let u = Memᴰ·of-map (λ (r : Record). r .body) (filter (λ r. eqb (r .kind) 1) rs) k in
+    let f = filter-out (λ (r : Record). eqb (r .kind) 1) rs (u .0) (u .1) in
+    subst (λ x. bodyBelow n x ≡ true) (u .2) (walk-sound s n m 5 W (u .0) (f .0) .atoms)))
+  where
+    rs : List Record
+    rs = recordsFrom m s 5
+
+    low : (r : Record) → eqb (r .kind) 0 ≡ true → kindFits n (r .kind) (r .head) ≡ true → ltb (r .head) n ≡ true
+    low r z e =
+        let zero-kind = eqb-true (r .kind) 0 z in
+        ⊎-elim (λ p. and-right (eqb (r .kind) 0) (ltb (r .head) n) p)
+        (λ p. absurd (let one = eqb-true (r .kind) 1 (and-left (eqb (r .kind) 1) (eqb (r .head) 0) p) in omega arith))
+        (or-cases (eqb (r .kind) 0 && ltb (r .head) n) (eqb (r .kind) 1 && eqb (r .head) 0) e)
+
+pub program-formed : (L : Limits) (s : List ℕ) → formQuestions L s ≡ 0 → wellFormed (program s) ≡ true
+unfolding program records
+program-formed L s e = walk-formed s (atomsByte s) (recordsByte s) (formed L s e .walk)

@@ -1,0 +1,4 @@
+pub mod Questions
+pub mod Format
+pub mod Sheet
+pub mod Sequence

@@ -1,0 +1,57 @@
+-- What a sheet's bytes say: its records, and its program.
+use mathlib.Core.Bool.{true}
+use mathlib.Core.List.{List, [], _∷_, map}
+use mathlib.Core.Path.{_≡_}
+use Prim.Native.Nat.{ℕ, zero, suc, _-_}
+use lib.Dec.{eqb}
+use Rattle.lists.specs.Lists.{filter}
+use Rattle.asp.specs.Program.{Body, Rule, Program}
+use Rattle.sheet.specs.Format.{atomsByte, recordsByte, kind, head, posOf, negOf, end, Complete, kindPasses, listsFit, recordsQuestions}
+
+-- A record of the sheet.
+pub record Record : Type 0 where
+  pub kind : ℕ
+  pub head : ℕ
+  pub body : Body
+
+unfoldable pub recordAt : List ℕ → ℕ → Record
+recordAt s at = record { kind = kind s at; head = head s at; body = record { pos = posOf s at; neg = negOf s at } }
+
+-- The k records from `at` on.
+unfoldable pub recordsFrom : ℕ → List ℕ → ℕ → List Record
+recordsFrom zero s at = []
+recordsFrom (suc k) s at = recordAt s at ∷ recordsFrom k s (end s at)
+
+unfoldable pub records : List ℕ → List Record
+records s = recordsFrom (recordsByte s) s 5
+
+-- The program of records over n atoms: kind 0 is a rule, kind 1 a constraint.
+unfoldable pub rulesOf : List Record → List Rule
+rulesOf rs = map (λ r. record { head = r .head; body = r .body }) (filter (λ r. eqb (r .kind) 0) rs)
+
+unfoldable pub constraintsOf : List Record → List Body
+constraintsOf rs = map (λ r. r .body) (filter (λ r. eqb (r .kind) 1) rs)
+
+unfoldable pub programOf : ℕ → List Record → Program
+programOf n rs = record { atoms = n; rules = rulesOf rs; constraints = constraintsOf rs }
+
+-- The program of a sheet.
+unfoldable pub program : List ℕ → Program
+program s = programOf (atomsByte s) (records s)
+
+-- The record at `at` has passed questions 4, 5 and 6.
+pub record Known (s : List ℕ) (n at : ℕ) : Type 0 where
+  pub whole : Complete s at
+  pub kinds : kindPasses n s at ≡ true
+  pub lists : listsFit n s at ≡ true
+
+-- The records from `at` on, `left` of them, have passed.
+pub record Walk (s : List ℕ) (n left at : ℕ) : Type 0 where
+  pub passed : recordsQuestions left n s at ≡ 0
+
+-- One record further: where it ends, what is known of it, and what is left.
+pub record Stepped (s : List ℕ) (n left at r : ℕ) : Type 0 where
+  pub is : r ≡ end s at
+  pub known : Known s n at
+  pub rest : Walk s n (left - 1) r
+  pub list : recordsFrom left s at ≡ recordAt s at ∷ recordsFrom (left - 1) s r

@@ -1,0 +1,80 @@
+-- Laws of writers and of loops over them.
+use mathlib.Core.List.{List, [], _∷_, _++_, append-nil, append-assoc}
+use mathlib.Core.Path.{_≡_, refl, sym, _∙_, ap, subst}
+use Prim.Native.Nat.{ℕ, suc, _+_, _≤_}
+use native.Mathlib.Nat.{add-zero, zero-add}
+use native.Mathlib.Omega.{arith}
+use lib.ListN.{length, length-append, drop, set}
+use lib.Seq.{sets, set-out, length-sets, sets-eq}
+use Rattle.writer.specs.Wrote.{Wrote}
+
+module _ {A : Type 0} where
+  pub wrote-one : (old : List A) (at : ℕ) (w : A) → Wrote old at (w ∷ []) (set old at w) (at + 1)
+  wrote-one old at w = record { stored = refl; moved = refl }
+
+  -- Past the end a store does nothing.
+  pub wrote-past : (old : List A) (at : ℕ) (w : A) → length old ≤ at → Wrote old at (w ∷ []) old (at + 1)
+  wrote-past old at w l = record { stored = sym (set-out old at w l); moved = refl }
+
+  sets-append : (xs ys old : List A) (at : ℕ) → sets old at (xs ++ ys) ≡ sets (sets old at xs) (at + length xs) ys
+  sets-append [] ys old at = ap (λ k. sets old k ys) (sym (add-zero at))
+  sets-append (x ∷ xs) ys old at =
+      sets-append xs ys (set old at x) (suc at)
+      ∙ ap (λ k. sets (sets (set old at x) (suc at) xs) k ys) (let e : suc at + length xs ≡ at + suc (length xs) = omega arith in e)
+
+-- A loop that writes: what is written so far, and what is still to be written.
+pub record Left {A : Type 0} (old : List A) (at : ℕ) (ws cur : List A) (pos : ℕ) (rest : List A) : Type 0 where
+  pub done : List A
+  pub split : done ++ rest ≡ ws
+  pub so-far : Wrote old at done cur pos
+  pub ends : pos + length rest ≡ at + length ws
+
+module _ {A : Type 0} (old : List A) (at : ℕ) (ws : List A) where
+  pub left-start : (rest : List A) → rest ≡ ws → Left old at ws old at rest
+  left-start rest e = record { done = []; split = e; so-far = record { stored = refl; moved = sym (add-zero at) }; ends = ap (λ l. at + length l) e }
+
+  pub left-turn : (cur new xs rest less : List A) (pos next : ℕ) → Left old at ws cur pos rest → rest ≡ xs ++ less → Wrote cur pos xs new next
+      → Left old at ws new next less
+  left-turn cur new xs rest less pos next L e W =
+      let d = L .done in
+      let size = ap length e ∙ length-append xs less in
+      let sum = length-append d xs in
+      let m = L .so-far .moved in
+      let k = W .moved in
+      let f = L .ends in
+      record {
+        done = d ++ xs;
+        split = append-assoc d xs less ∙ (ap (λ l. d ++ l) (sym e) ∙ L .split);
+        so-far = record {
+          stored = W .stored ∙ (ap (λ l. sets l pos xs) (L .so-far .stored) ∙ (ap (λ p. sets (sets old at d) p xs) m ∙ sym (sets-append d xs old at)));
+          moved = omega arith;
+        };
+        ends = omega arith;
+      }
+
+  -- The buffer keeps its length.
+  pub left-length : (cur rest : List A) (pos : ℕ) → Left old at ws cur pos rest → length cur ≡ length old
+  left-length cur rest pos L = ap length (L .so-far .stored) ∙ length-sets old at (L .done)
+
+  pub left-end : (cur rest : List A) (pos : ℕ) → Left old at ws cur pos rest → rest ≡ [] → Wrote old at ws cur pos
+  left-end cur rest pos L e = subst (λ l. Wrote old at l cur pos) (sym (append-nil (L .done)) ∙ (ap (λ l. L .done ++ l) (sym e) ∙ L .split)) (L .so-far)
+
+module _ {A : Type 0} where
+  pub wrote-length : (old new ws : List A) (at next : ℕ) → Wrote old at ws new next → length new ≡ length old
+  wrote-length old new ws at next W = ap length (W .stored) ∙ length-sets old at ws
+
+  -- Two writers, one behind the other.
+  pub wrote-append : (old mid new xs ys : List A) (at between next : ℕ) → Wrote old at xs mid between → Wrote mid between ys new next → Wrote old at (xs ++ ys) new next
+  wrote-append old mid new xs ys at between next U W =
+      let m = U .moved in
+      let k = W .moved in
+      let size = length-append xs ys in
+      record {
+        stored = W .stored ∙ (ap (λ l. sets l between ys) (U .stored) ∙ (ap (λ p. sets (sets old at xs) p ys) m ∙ sym (sets-append xs ys old at)));
+        moved = omega arith;
+      }
+
+  -- A whole output that fits: the output, then the buffer as it was.
+  pub wrote-whole : (old ws new : List A) (next : ℕ) → Wrote old 0 ws new next → length ws ≤ length old → new ≡ ws ++ drop (length ws) old
+  wrote-whole old ws new next W l =
+      W .stored ∙ (sets-eq ws old 0 (let e = zero-add (length ws) in omega arith) ∙ ap (λ k. ws ++ drop k old) (zero-add (length ws)))

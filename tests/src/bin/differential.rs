@@ -1,0 +1,104 @@
+//! differential [INPUTS [SEED]]: compares the library with the reference on generated inputs.
+
+use rulesheet_tests::inputs::{any_sheet, damaged};
+use rulesheet_tests::library::Library;
+use rulesheet_tests::random::Random;
+use rulesheet_tests::reference::{answer, read_sheet, within, Graph};
+use rulesheet_tests::report::{Statistics, Tally};
+use rulesheet_tests::sequences::any_sequence;
+use rulesheet_tests::service::{Answer, Argument, Call, Operation, Service};
+use rulesheet_tests::sheet::Sheet;
+use rulesheet_tests::vectors::format;
+use std::env;
+
+const INPUTS: u64 = 20_000;
+const SEED: u64 = 1;
+
+fn main() {
+    let mut arguments =
+        env::args().skip(1).map(|argument| argument.parse().expect("usage: differential [INPUTS [SEED]]"));
+    let inputs = arguments.next().unwrap_or(INPUTS);
+    let mut random = Random::new(arguments.next().unwrap_or(SEED));
+    let mut comparison =
+        Comparison { library: Library::new(), tally: Tally::default(), statistics: Statistics::default() };
+    let offered: Vec<Operation> =
+        Operation::ALL.into_iter().filter(|&operation| comparison.library.offers(operation)).collect();
+    for _ in 0..inputs {
+        let (sheet, sequence) = input(&mut random);
+        for &operation in &offered {
+            for (call, expected) in calls(&mut random, operation, &sheet, &sequence) {
+                comparison.compare(&call, &expected);
+            }
+        }
+    }
+    comparison.finish();
+}
+
+/// A sheet and a sequence, valid or not.
+fn input(random: &mut Random) -> (Vec<u8>, Vec<u8>) {
+    let sheet = any_sheet(random);
+    let sequence = any_sequence(random, &Graph::new(&sheet));
+    let bytes = if random.one_in(2) { sheet.bytes() } else { damaged(random, &sheet) };
+    (bytes, sequence)
+}
+
+/// The calls of an operation on one input, with the reference's answers.
+fn calls(random: &mut Random, operation: Operation, sheet: &[u8], sequence: &[u8]) -> Vec<(Call, Answer)> {
+    let call = match operation {
+        // Each run is a process.
+        Operation::Program if !random.one_in(20) => return Vec::new(),
+        Operation::Program => Call::new(operation, &[sheet, sequence].concat()),
+        _ if operation.takes(Argument::Sequence) => Call::new(operation, sheet).sequence(sequence),
+        _ => Call::new(operation, sheet),
+    };
+    let answered = |call: Call| (call.clone(), answer(&call));
+    if operation.takes(Argument::Number) {
+        return numbers(random, sheet).into_iter().map(|number| answered(call.clone().number(number))).collect();
+    }
+    let (call, whole) = answered(call);
+    if operation.takes(Argument::Room) {
+        let rooms = rooms(random, whole.length()).into_iter();
+        return rooms.map(|room| (call.clone().room(room), within(whole.clone(), Some(room)))).collect();
+    }
+    vec![(call, whole)]
+}
+
+/// Record numbers inside the sheet, at its end and far beyond.
+fn numbers(random: &mut Random, sheet: &[u8]) -> Vec<u64> {
+    let records = read_sheet(sheet).map_or(0, |sheet: Sheet| sheet.records.len() as u64);
+    let within = random.below(records.max(1) as usize) as u64;
+    vec![
+        within,
+        records.saturating_sub(1),
+        records,
+        *random.pick(&[records + 256, records + (1 << 32), u64::MAX, 1 << 63]),
+    ]
+}
+
+/// Every size near the need, and two further off.
+fn rooms(random: &mut Random, need: usize) -> Vec<usize> {
+    let near = need.saturating_sub(2)..=need + 2;
+    near.chain([random.between(0, need), need + random.below(50)]).collect()
+}
+
+struct Comparison {
+    library: Library,
+    tally: Tally,
+    statistics: Statistics,
+}
+
+impl Comparison {
+    fn compare(&mut self, call: &Call, expected: &Answer) {
+        let result = self.library.check(call, &expected.to_string());
+        self.statistics.add(call.operation, expected);
+        self.tally.add(&result);
+        if let Err(instead) = result {
+            println!("{}\n    instead: {instead}", format(0, call, expected));
+        }
+    }
+
+    fn finish(&self) -> ! {
+        print!("{}", self.statistics);
+        self.tally.finish()
+    }
+}

@@ -1,0 +1,20 @@
+//! generate FOLDER: writes the repository's vector files from the reference.
+
+mod cases;
+mod count;
+mod program;
+mod sequences;
+mod sheets;
+mod unfolded;
+
+use std::{env, path::Path};
+
+fn main() {
+    let folder = env::args().nth(1).expect("usage: generate FOLDER");
+    let folder = Path::new(&folder);
+    sheets::cases().write(folder, "sheets.txt");
+    sequences::cases().write(folder, "sequences.txt");
+    unfolded::cases().write(folder, "unfolded.txt");
+    count::cases().write(folder, "count.txt");
+    program::cases().write(folder, "program.txt");
+}

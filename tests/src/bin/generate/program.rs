@@ -1,0 +1,64 @@
+//! Cases of the clause program.
+
+use crate::cases::Cases;
+use rulesheet_tests::inputs::{any_sheet, damaged, Style};
+use rulesheet_tests::random::Random;
+use rulesheet_tests::reference::Graph;
+use rulesheet_tests::sequences::{any_sequence, mixed};
+use rulesheet_tests::service::{Call, Operation};
+use rulesheet_tests::sheet::{constraint, rule, sequence_bytes, Record, Sheet};
+
+pub fn cases() -> Cases {
+    let mut cases = Cases::default();
+    let mut random = Random::new(5);
+    divisions(&mut cases);
+    room(&mut cases);
+    for _ in 0..40 {
+        let sheet = Style { atoms: 6, records: 8, component: 4, negated: 6, body: 2 }.sheet(&mut random);
+        let entries = mixed(&mut random, &Graph::new(&sheet));
+        run(&mut cases, &[sheet.bytes(), sequence_bytes(&entries)]);
+        let sequence = any_sequence(&mut random, &Graph::new(&sheet));
+        run(&mut cases, &[sheet.bytes(), sequence.clone()]);
+        run(&mut cases, &[damaged(&mut random, &sheet), sequence]);
+    }
+    for _ in 0..20 {
+        let sheet = any_sheet(&mut random);
+        run(&mut cases, &[sheet.bytes(), sequence_bytes(&Graph::new(&sheet).default_sequence())]);
+    }
+    cases
+}
+
+fn run(cases: &mut Cases, parts: &[Vec<u8>]) {
+    cases.add(Call::new(Operation::Program, &parts.concat()));
+}
+
+/// Where the length field divides the input.
+fn divisions(cases: &mut Cases) {
+    let sheet =
+        Sheet::new(3, vec![rule(0, &[1], &[]), rule(1, &[0], &[]), rule(0, &[], &[2]), rule(2, &[], &[0])]).bytes();
+    let input = [sheet.clone(), sequence_bytes(&[0, 1, 0, 2])].concat();
+    for length in 0..=input.len() {
+        run(cases, &[input[..length].to_vec()]);
+    }
+    for more in [1, 3, 7, 65_536] {
+        run(cases, &[input.clone(), vec![0; more]]);
+    }
+    for length in [0, 1, 2, 3, 4, 5, 24, 26, 32, 33, 255] {
+        let mut input = input.clone();
+        input[2] = length;
+        run(cases, &[input]);
+    }
+    run(cases, &[vec![1, 0, 5, 0, 0], sequence_bytes(&[])]);
+    run(cases, &[Sheet::new(0, vec![constraint(&[], &[])]).bytes(), sequence_bytes(&[])]);
+}
+
+/// Outputs of 16,384 words, of one less and of one more.
+fn room(cases: &mut Cases) {
+    let facts = vec![rule(0, &[], &[]); 4];
+    let words = |number: usize| -> Vec<Record> { vec![constraint(&[], &[]); number] };
+    for number in 2..=5 {
+        // 630 copies of 26 words each, and a word for each constraint.
+        let sheet = Sheet::new(1, [facts.clone(), words(number)].concat());
+        run(cases, &[sheet.bytes(), sequence_bytes(&[0; 630])]);
+    }
+}

@@ -1,0 +1,179 @@
+//! Cases of unfolded programs and clauses.
+
+use crate::cases::Cases;
+use rulesheet_tests::inputs::{connected, cycle, Shape, Style};
+use rulesheet_tests::random::Random;
+use rulesheet_tests::reference::Graph;
+use rulesheet_tests::sequences::{lengthened, malformed, minimal, mixed, without, MOST_ENTRIES};
+use rulesheet_tests::service::{Call, Operation};
+use rulesheet_tests::sheet::{constraint, rule, sequence_bytes, Sheet};
+
+const OPERATIONS: [Operation; 2] = [Operation::Unfolded, Operation::Clauses];
+
+pub fn cases() -> Cases {
+    let mut cases = Cases::default();
+    let mut random = Random::new(3);
+    small_sheets(&mut cases, &mut random);
+    for _ in 0..60 {
+        let sheet = Style { atoms: 5, records: 7, component: 4, negated: 5, body: 2 }.sheet(&mut random);
+        some_sequences(&mut cases, &mut random, &sheet);
+    }
+    for _ in 0..20 {
+        let sheet = Style { atoms: 16, records: 24, component: 7, negated: 12, body: 3 }.sheet(&mut random);
+        some_sequences(&mut cases, &mut random, &sheet);
+    }
+    for size in 2..=10 {
+        for shape in Shape::ALL {
+            let sheet = with_entrances(&mut random, shape, size);
+            some_sequences(&mut cases, &mut random, &sheet);
+        }
+    }
+    long_outputs(&mut cases, &mut random);
+    refusals(&mut cases, &mut random);
+    cases
+}
+
+/// Both operations, with the room that is needed and with another room near it.
+fn ask(cases: &mut Cases, random: &mut Random, sheet: &Sheet, entries: &[u8]) {
+    for operation in OPERATIONS {
+        let call = Call::new(operation, &sheet.bytes()).sequence(&sequence_bytes(entries));
+        let need = cases.add(call.clone()).length();
+        let room = *random.pick(&[
+            need,
+            need,
+            need.saturating_sub(1),
+            need.saturating_sub(1),
+            0,
+            need / 2,
+            need + 1,
+            need + 99,
+        ]);
+        cases.add(call.room(room));
+    }
+}
+
+/// A passing sequence of each of two sorts.
+fn some_sequences(cases: &mut Cases, random: &mut Random, sheet: &Sheet) {
+    let graph = Graph::new(sheet);
+    let default = graph.default_sequence();
+    let mixed = mixed(random, &graph);
+    let minimal = minimal(random, &graph, &mixed);
+    let mut sequences =
+        [lengthened(random, &graph, &minimal, 4), lengthened(random, &graph, &default, 2), default, mixed, minimal];
+    random.shuffle(&mut sequences);
+    for entries in &sequences[..2] {
+        ask(cases, random, sheet, entries);
+    }
+}
+
+/// A component that facts and negative atoms lead into, and a constraint on it.
+fn with_entrances(random: &mut Random, shape: Shape, size: usize) -> Sheet {
+    let mut sheet = connected(random, shape, size);
+    let atoms: Vec<u8> = (0..sheet.atoms).collect();
+    let records = [
+        rule(*random.pick(&atoms), &[], &[]),
+        rule(*random.pick(&atoms), &[], &random.some_of(&atoms, 2)),
+        constraint(&random.some_of(&atoms, 2), &random.some_of(&atoms, 2)),
+    ];
+    for record in records {
+        sheet.records.insert(random.below(sheet.records.len() + 1), record);
+    }
+    sheet
+}
+
+fn small_sheets(cases: &mut Cases, random: &mut Random) {
+    let pair = [rule(0, &[1], &[]), rule(1, &[0], &[])];
+    let small: [(Sheet, &[&[u8]]); 12] = [
+        (Sheet::new(0, vec![]), &[&[]]),
+        (Sheet::new(0, vec![constraint(&[], &[])]), &[&[]]),
+        (Sheet::new(1, vec![]), &[&[0], &[0, 0, 0]]),
+        (Sheet::new(2, pair.to_vec()), &[&[0, 1, 0], &[1, 0, 1], &[0, 1, 0, 1], &[0, 0, 1, 1, 0, 0]]),
+        // Sheet A.
+        (
+            Sheet::new(3, [&pair[..], &[rule(0, &[], &[2]), rule(2, &[], &[0])]].concat()),
+            &[&[0, 1, 0, 2], &[0, 1, 0, 1, 2], &[2, 0, 1, 0], &[1, 0, 1, 2, 2], &[0, 1, 2]],
+        ),
+        // A self loop: the rule is dropped at the first copy and reads the copy before at the others.
+        (Sheet::new(1, vec![rule(0, &[0], &[])]), &[&[0], &[0, 0], &[0, 0, 0, 0]]),
+        (Sheet::new(1, vec![rule(0, &[0], &[]), rule(0, &[], &[])]), &[&[0], &[0, 0, 0]]),
+        // One atom in both lists, in its own component and in another.
+        (Sheet::new(2, vec![rule(0, &[0], &[0]), rule(1, &[0], &[0])]), &[&[0, 1], &[1, 0], &[0, 1, 0, 1]]),
+        // An atom of another component is read by its last copy, wherever that stands.
+        (Sheet::new(2, vec![rule(1, &[0], &[]), rule(0, &[], &[])]), &[&[0, 1], &[1, 0], &[0, 1, 0], &[1, 0, 1, 0, 0]]),
+        // Two atoms of the component in one body, one of them without a copy at first.
+        (
+            Sheet::new(3, [cycle(&[0, 1, 2]), vec![rule(0, &[1, 2], &[1]), rule(2, &[0, 2], &[])]].concat()),
+            &[&[0, 1, 2, 0, 1, 2, 0, 1, 2], &[2, 1, 0, 1, 2, 0, 1]],
+        ),
+        // The same rule twice, facts, and constraints of every form.
+        (
+            Sheet::new(2, vec![rule(1, &[], &[0]), rule(1, &[], &[0]), rule(0, &[], &[]), rule(0, &[], &[])]),
+            &[&[0, 1], &[1, 0, 0]],
+        ),
+        (
+            Sheet::new(
+                2,
+                vec![
+                    constraint(&[], &[]),
+                    constraint(&[0], &[]),
+                    constraint(&[], &[0, 1]),
+                    constraint(&[0, 1], &[0, 1]),
+                ],
+            ),
+            &[&[0, 1], &[1, 1, 0]],
+        ),
+    ];
+    for (sheet, sequences) in small {
+        for entries in sequences {
+            ask(cases, random, &sheet, entries);
+        }
+    }
+}
+
+/// Outputs of many thousand words.
+fn long_outputs(cases: &mut Cases, random: &mut Random) {
+    for shape in [Shape::CompleteSplit, Shape::Complete, Shape::Tangle] {
+        let sheet = connected(random, shape, 10);
+        let graph = Graph::new(&sheet);
+        let entries = lengthened(random, &graph, &graph.default_sequence(), MOST_ENTRIES);
+        ask(cases, random, &sheet, &entries);
+    }
+    let sheet = loop {
+        let sheet = Style { atoms: 64, records: 128, component: 6, negated: 64, body: 4 }.sheet(random);
+        if sheet.atoms >= 50 && sheet.records.len() >= 80 {
+            break sheet;
+        }
+    };
+    let graph = Graph::new(&sheet);
+    ask(cases, random, &sheet, &graph.default_sequence());
+    let entries = lengthened(random, &graph, &graph.default_sequence(), MOST_ENTRIES);
+    ask(cases, random, &sheet, &entries);
+}
+
+/// Refusals by the questions before the room, with no room and with plenty.
+fn refusals(cases: &mut Cases, random: &mut Random) {
+    let sheet = connected(random, Shape::Complete, 3);
+    let graph = Graph::new(&sheet);
+    let minimal = minimal(random, &graph, &graph.default_sequence());
+    let eleven = Sheet::new(11, cycle(&(0..11).collect::<Vec<_>>()));
+    let good = sheet.bytes();
+    let mut pairs: Vec<(Vec<u8>, Vec<u8>)> = vec![
+        (vec![], sequence_bytes(&[])),
+        (vec![1, 0, 6, 0, 0], sequence_bytes(&[])),
+        (vec![1, 0, 5, 65, 0], sequence_bytes(&[])),
+        (vec![1, 0, 6, 0, 0, 0], sequence_bytes(&[])),
+        (Sheet::new(1, vec![rule(1, &[], &[])]).bytes(), sequence_bytes(&[0])),
+        (Sheet::new(1, vec![rule(0, &[1], &[])]).bytes(), sequence_bytes(&[0])),
+        (eleven.bytes(), sequence_bytes(&Graph::new(&eleven).default_sequence())),
+        (eleven.bytes(), vec![]),
+        (eleven.bytes(), vec![1, 0, 1, 11]),
+    ];
+    pairs.extend(malformed(sheet.atoms, &minimal).into_iter().map(|sequence| (good.clone(), sequence)));
+    pairs.extend((0..minimal.len()).map(|place| (good.clone(), sequence_bytes(&without(&minimal, place)))));
+    for (sheet, sequence) in &pairs {
+        for operation in OPERATIONS {
+            let call = Call::new(operation, sheet).sequence(sequence);
+            cases.add(if random.one_in(3) { call.room(*random.pick(&[0, 1, 5_000])) } else { call });
+        }
+    }
+}

@@ -1,0 +1,254 @@
+//! Sheets of many shapes, and damaged ones.
+
+use crate::random::Random;
+use crate::sheet::{constraint, rule, set_length, Record, Sheet};
+
+/// Rules over a set of atoms whose positive graph is strongly connected.
+#[derive(Clone, Copy, Debug)]
+pub enum Shape {
+    /// Each atom has an edge to the next, the last one to the first.
+    Cycle,
+    /// Each atom has an edge to every other; one rule a head.
+    Complete,
+    /// The same, one rule an edge.
+    CompleteSplit,
+    /// A path with its edges both ways.
+    Path,
+    /// The first atom has edges to and from each other atom.
+    Star,
+    /// A cycle with further edges, some by rules with several positive atoms.
+    Tangle,
+}
+
+impl Shape {
+    pub const ALL: [Shape; 6] =
+        [Shape::Cycle, Shape::Complete, Shape::CompleteSplit, Shape::Path, Shape::Star, Shape::Tangle];
+
+    pub fn rules(self, random: &mut Random, atoms: &[u8]) -> Vec<Record> {
+        match self {
+            Shape::Cycle => cycle(atoms),
+            Shape::Complete => atoms.iter().map(|&head| rule(head, &others(atoms, head), &[])).collect(),
+            Shape::CompleteSplit => {
+                let edges = |&head: &u8| others(atoms, head).into_iter().map(move |other| rule(head, &[other], &[]));
+                atoms.iter().flat_map(edges).collect()
+            }
+            Shape::Path => atoms.windows(2).flat_map(|pair| both_ways(pair[0], pair[1])).collect(),
+            Shape::Star => atoms[1..].iter().flat_map(|&atom| both_ways(atoms[0], atom)).collect(),
+            Shape::Tangle => tangle(random, atoms),
+        }
+    }
+}
+
+pub fn cycle(atoms: &[u8]) -> Vec<Record> {
+    let next = atoms.iter().cycle().skip(1);
+    atoms.iter().zip(next).map(|(&atom, &next)| rule(next, &[atom], &[])).collect()
+}
+
+fn both_ways(a: u8, b: u8) -> [Record; 2] {
+    [rule(a, &[b], &[]), rule(b, &[a], &[])]
+}
+
+fn tangle(random: &mut Random, atoms: &[u8]) -> Vec<Record> {
+    let mut rules = cycle(atoms);
+    for _ in 0..random.between(1, 2 * atoms.len()) {
+        let head = *random.pick(atoms);
+        let positives = random.some_of(atoms, 3);
+        let negatives = random.some_of(atoms, 1);
+        rules.push(rule(head, &positives, &negatives));
+    }
+    rules
+}
+
+/// The atoms without one, rising.
+fn others(atoms: &[u8], without: u8) -> Vec<u8> {
+    let mut others: Vec<u8> = atoms.iter().copied().filter(|&atom| atom != without).collect();
+    others.sort_unstable();
+    others
+}
+
+/// So many of the atoms below n, in random order.
+pub fn choose(random: &mut Random, n: usize, number: usize) -> Vec<u8> {
+    let mut atoms: Vec<u8> = (0..n as u8).collect();
+    random.shuffle(&mut atoms);
+    atoms.truncate(number);
+    atoms
+}
+
+/// A sheet with a component of one shape and size, and some atoms before it, behind it and beside it.
+pub fn connected(random: &mut Random, shape: Shape, size: usize) -> Sheet {
+    let n = size + random.between(0, 3);
+    let atoms = choose(random, n, n);
+    let (inside, outside) = atoms.split_at(size);
+    let mut records = shape.rules(random, inside);
+    for &atom in outside {
+        let inner = *random.pick(inside);
+        match random.below(4) {
+            0 => records.push(rule(inner, &[atom], &[])),
+            1 => records.push(rule(atom, &[inner], &[])),
+            2 => records.push(rule(atom, &[atom], &[])),
+            _ => records.push(rule(atom, &[], &[])),
+        }
+    }
+    random.shuffle(&mut records);
+    Sheet::new(n as u8, records)
+}
+
+/// Bounds for a random sheet.
+#[derive(Clone, Copy, Debug)]
+pub struct Style {
+    pub atoms: usize,
+    pub records: usize,
+    /// The largest component.
+    pub component: usize,
+    /// How many different atoms may be negated in rules.
+    pub negated: usize,
+    /// The longest list in a body.
+    pub body: usize,
+}
+
+impl Style {
+    pub fn any(random: &mut Random) -> Style {
+        match random.below(8) {
+            0..=3 => Style { atoms: 6, records: 10, component: 4, negated: 6, body: 2 },
+            4..=5 => Style { atoms: 12, records: 24, component: 6, negated: 8, body: 3 },
+            6 => Style { atoms: 30, records: 60, component: 10, negated: 10, body: 4 },
+            _ => Style { atoms: 64, records: 128, component: 10, negated: 20, body: 6 },
+        }
+    }
+
+    /// A sheet whose components are within the bound: the atoms fall into groups, and the positive atoms of a rule
+    /// are of its head's group or of an earlier one.
+    pub fn sheet(&self, random: &mut Random) -> Sheet {
+        let n = random.between(0, self.atoms);
+        let atoms = choose(random, n, n);
+        let groups = groups(random, &atoms, self.component);
+        let negatable = choose(random, n, self.negated);
+        let number = random.between(0, self.records);
+        let mut records = Vec::new();
+        for _ in 0..number {
+            if groups.is_empty() || random.one_in(7) {
+                records.push(self.constraint(random, n));
+            } else {
+                let place = random.below(groups.len());
+                records.push(self.rule(random, &groups[..=place], &negatable));
+            }
+        }
+        Sheet::new(n as u8, records)
+    }
+
+    fn constraint(&self, random: &mut Random, n: usize) -> Record {
+        let atoms: Vec<u8> = (0..n as u8).collect();
+        constraint(&random.some_of(&atoms, self.body), &random.some_of(&atoms, self.body))
+    }
+
+    /// A rule with its head in the last group.
+    fn rule(&self, random: &mut Random, groups: &[Vec<u8>], negatable: &[u8]) -> Record {
+        let (group, earlier) = groups.split_last().expect("a group");
+        let own = random.some_of(group, self.body.div_ceil(2));
+        let other = random.some_of(&earlier.concat(), self.body / 2);
+        let mut positives = [own, other].concat();
+        positives.sort_unstable();
+        rule(*random.pick(group), &positives, &random.some_of(negatable, self.body))
+    }
+}
+
+/// The atoms in groups of at most `largest`.
+fn groups(random: &mut Random, atoms: &[u8], largest: usize) -> Vec<Vec<u8>> {
+    let mut groups = Vec::new();
+    let mut rest = atoms;
+    while !rest.is_empty() {
+        let (group, after) = rest.split_at(random.between(1, largest.min(rest.len())));
+        groups.push(group.to_vec());
+        rest = after;
+    }
+    groups
+}
+
+/// A sheet of any shape.
+pub fn any_sheet(random: &mut Random) -> Sheet {
+    let mut sheet = if random.one_in(4) {
+        let shape = *random.pick(&Shape::ALL);
+        let size = random.between(2, 11);
+        connected(random, shape, size)
+    } else {
+        Style::any(random).sheet(random)
+    };
+    if random.one_in(3) {
+        add_choices(random, &mut sheet);
+    }
+    sheet
+}
+
+/// Pairs of atoms, each of which holds if the other does not.
+pub fn add_choices(random: &mut Random, sheet: &mut Sheet) {
+    let pairs = random.between(1, 3);
+    for pair in choose(random, sheet.atoms.into(), 2 * pairs).chunks_exact(2) {
+        if sheet.records.len() <= 126 {
+            sheet.records.push(rule(pair[0], &[], &[pair[1]]));
+            sheet.records.push(rule(pair[1], &[], &[pair[0]]));
+        }
+    }
+    random.shuffle(&mut sheet.records);
+}
+
+/// The bytes of a sheet with one thing changed, which may leave them valid.
+pub fn damaged(random: &mut Random, sheet: &Sheet) -> Vec<u8> {
+    let mut bytes = sheet.bytes();
+    match random.below(9) {
+        0 => flip_bit(random, &mut bytes),
+        1 => *any_of(random, &mut bytes) = random.byte(),
+        2 => truncate(random, &mut bytes),
+        3 => {
+            truncate(random, &mut bytes);
+            set_length(&mut bytes);
+        }
+        4 => {
+            bytes.push(random.byte());
+            set_length(&mut bytes);
+        }
+        5 => bytes[random.between(0, 4)] = *random.pick(&[0, 1, 2, 3, 64, 65, 128, 129, 255]),
+        6 => bytes = damaged_record(random, sheet),
+        7 => bytes[2] = *random.pick(&[bytes[2].wrapping_add(1), bytes[2].wrapping_sub(1)]),
+        _ => bytes = noise(random),
+    }
+    bytes
+}
+
+/// One field of one record changed by a little, or to a limit.
+fn damaged_record(random: &mut Random, sheet: &Sheet) -> Vec<u8> {
+    let mut bytes = sheet.bytes();
+    if sheet.records.is_empty() {
+        return bytes;
+    }
+    let number = random.below(sheet.records.len());
+    let at = sheet.record_at(number) + random.below(sheet.records[number].length());
+    let old = bytes[at];
+    bytes[at] = *random.pick(&[0, 1, 2, 3, 255, sheet.atoms, old.wrapping_add(1), old.wrapping_sub(1)]);
+    bytes
+}
+
+/// Random bytes, with a right header or not.
+fn noise(random: &mut Random) -> Vec<u8> {
+    let mut bytes: Vec<u8> = (0..random.between(0, 30)).map(|_| random.byte()).collect();
+    if random.one_in(2) && bytes.len() >= 5 {
+        bytes[0] = 1;
+        set_length(&mut bytes);
+        bytes[3] %= 66;
+        bytes[4] %= 4;
+    }
+    bytes
+}
+
+pub fn flip_bit(random: &mut Random, bytes: &mut [u8]) {
+    *any_of(random, bytes) ^= 1 << random.below(8);
+}
+
+pub fn truncate(random: &mut Random, bytes: &mut Vec<u8>) {
+    let length = random.below(bytes.len() + 1);
+    bytes.truncate(length);
+}
+
+fn any_of<'a>(random: &mut Random, bytes: &'a mut [u8]) -> &'a mut u8 {
+    let place = random.below(bytes.len());
+    &mut bytes[place]
+}

@@ -1,0 +1,239 @@
+//! The library behind include/rulesheet.h. Every call checks that memory which the answer leaves alone is untouched.
+
+use crate::lent::{Lent, Unchanged};
+use crate::service::{Answer, Call, Operation, Service};
+use std::io::Write;
+use std::path::PathBuf;
+use std::process::{Command, Stdio};
+use std::thread;
+
+/// Declares the functions of the header; one that the header does not have yet is never called.
+macro_rules! header {
+    ($($operation:tt fn $name:ident($($argument:ident: $type:ty),* $(,)?);)*) => {$(
+        #[cfg(operation = $operation)]
+        extern "C" {
+            fn $name($($argument: $type),*) -> u32;
+        }
+        #[cfg(not(operation = $operation))]
+        unsafe extern "C" fn $name($(_: $type),*) -> u32 {
+            unreachable!()
+        }
+    )*};
+}
+
+header! {
+    "read" fn rulesheet_read(sheet: *const u8, sheet_len: usize, atoms: *mut u64, records: *mut u64);
+    "body" fn rulesheet_body(
+        sheet: *const u8, sheet_len: usize, number: u64, positives: *mut u64, offset: *mut u64, length: *mut u64,
+    );
+    "components" fn rulesheet_components(
+        sheet: *const u8, sheet_len: usize, out: *mut u8, out_len: usize, written: *mut u64,
+    );
+    "default" fn rulesheet_default(
+        sheet: *const u8, sheet_len: usize, out: *mut u8, out_len: usize, written: *mut u64,
+    );
+    "test" fn rulesheet_test(sheet: *const u8, sheet_len: usize, sequence: *const u8, sequence_len: usize);
+    "unfolded" fn rulesheet_unfolded(
+        sheet: *const u8, sheet_len: usize, sequence: *const u8, sequence_len: usize,
+        out: *mut u32, out_len: usize, written: *mut u64,
+    );
+    "clauses" fn rulesheet_clauses(
+        sheet: *const u8, sheet_len: usize, sequence: *const u8, sequence_len: usize,
+        out: *mut i32, out_len: usize, written: *mut u64, variables: *mut u64, clauses: *mut u64,
+    );
+    "count" fn rulesheet_count(sheet: *const u8, sheet_len: usize, count: *mut u64, verdict: *mut u64);
+}
+
+type Writer = unsafe extern "C" fn(*const u8, usize, *mut u8, usize, *mut u64) -> u32;
+
+/// What is lent where a vector names no room and the answer needs none.
+const SPARE: usize = 1_000;
+
+pub struct Library {
+    /// The clause program.
+    program: PathBuf,
+}
+
+impl Library {
+    pub fn new() -> Library {
+        Library { program: PathBuf::from(concat!(env!("CARGO_MANIFEST_DIR"), "/../target/bin/clauses")) }
+    }
+}
+
+impl Default for Library {
+    fn default() -> Library {
+        Library::new()
+    }
+}
+
+impl Service for Library {
+    fn offers(&self, operation: Operation) -> bool {
+        match operation {
+            Operation::Read => cfg!(operation = "read"),
+            Operation::Body => cfg!(operation = "body"),
+            Operation::Components => cfg!(operation = "components"),
+            Operation::Default => cfg!(operation = "default"),
+            Operation::Test => cfg!(operation = "test"),
+            Operation::Unfolded => cfg!(operation = "unfolded"),
+            Operation::Clauses => cfg!(operation = "clauses"),
+            Operation::Count => cfg!(operation = "count"),
+            Operation::Program => self.program.exists(),
+        }
+    }
+
+    fn answer(&self, call: &Call) -> Result<Answer, String> {
+        let sheet = Input::new(&call.sheet);
+        let sequence = Input::new(&call.sequence);
+        let room = call.room.unwrap_or(SPARE);
+        let answer = match call.operation {
+            Operation::Read => read(&sheet),
+            Operation::Body => body(&sheet, call.number),
+            Operation::Components => bytes(rulesheet_components, &sheet, room),
+            Operation::Default => bytes(rulesheet_default, &sheet, room),
+            Operation::Test => test(&sheet, &sequence),
+            Operation::Unfolded => unfolded(&sheet, &sequence, room),
+            Operation::Clauses => clauses(&sheet, &sequence, room),
+            Operation::Count => count(&sheet),
+            Operation::Program => self.run_program(&call.sheet),
+        }?;
+        if sheet.read_back() != call.sheet || sequence.read_back() != call.sequence {
+            return Err("the input was changed".into());
+        }
+        Ok(answer)
+    }
+}
+
+/// Bytes that the library may read, in memory of just their length.
+struct Input {
+    start: *mut [u8],
+}
+
+impl Input {
+    fn new(bytes: &[u8]) -> Input {
+        Input { start: Box::into_raw(Box::from(bytes)) }
+    }
+
+    fn pointer(&self) -> *const u8 {
+        self.start as *const u8
+    }
+
+    fn length(&self) -> usize {
+        self.start.len()
+    }
+
+    fn read_back(&self) -> &[u8] {
+        unsafe { &*self.start }
+    }
+}
+
+impl Drop for Input {
+    fn drop(&mut self) {
+        drop(unsafe { Box::from_raw(self.start) });
+    }
+}
+
+/// A refusal leaves everything lent as it was.
+fn refused(status: u32, lent: &[&dyn Unchanged]) -> Result<Answer, String> {
+    for memory in lent {
+        memory.unchanged().map_err(|fault| format!("refused {status}, but {fault}"))?;
+    }
+    Ok(Answer::Refused(status))
+}
+
+fn read(sheet: &Input) -> Result<Answer, String> {
+    let (mut atoms, mut records) = (Lent::one(), Lent::one());
+    match unsafe { rulesheet_read(sheet.pointer(), sheet.length(), atoms.pointer(), records.pointer()) } {
+        0 => Ok(Answer::Read { atoms: atoms.value()?, records: records.value()? }),
+        status => refused(status, &[&atoms, &records]),
+    }
+}
+
+fn body(sheet: &Input, number: u64) -> Result<Answer, String> {
+    let (mut positives, mut offset, mut length) = (Lent::one(), Lent::one(), Lent::one());
+    let status = unsafe {
+        let (p, o, l) = (positives.pointer(), offset.pointer(), length.pointer());
+        rulesheet_body(sheet.pointer(), sheet.length(), number, p, o, l)
+    };
+    if status != 0 {
+        return refused(status, &[&positives, &offset, &length]);
+    }
+    let (offset, length): (u64, u64) = (offset.value()?, length.value()?);
+    let end = offset.checked_add(length).filter(|&end| end <= sheet.length() as u64);
+    let end = end.ok_or(format!("the stretch of {length} bytes at {offset} is not in the sheet"))?;
+    let stretch = sheet.read_back()[offset as usize..end as usize].to_vec();
+    Ok(Answer::Body { positives: positives.value()?, stretch, offset })
+}
+
+fn bytes(function: Writer, sheet: &Input, room: usize) -> Result<Answer, String> {
+    let (mut out, mut written) = (Lent::new(room), Lent::one());
+    match unsafe { function(sheet.pointer(), sheet.length(), out.pointer(), out.room(), written.pointer()) } {
+        0 => Ok(Answer::Bytes(out.output(written.value()?)?)),
+        status => refused(status, &[&out, &written]),
+    }
+}
+
+fn test(sheet: &Input, sequence: &Input) -> Result<Answer, String> {
+    match unsafe { rulesheet_test(sheet.pointer(), sheet.length(), sequence.pointer(), sequence.length()) } {
+        0 => Ok(Answer::Passed),
+        status => Ok(Answer::Refused(status)),
+    }
+}
+
+fn unfolded(sheet: &Input, sequence: &Input, room: usize) -> Result<Answer, String> {
+    let (mut out, mut written) = (Lent::new(room), Lent::one());
+    let status = unsafe {
+        let (o, w) = (out.pointer(), written.pointer());
+        rulesheet_unfolded(sheet.pointer(), sheet.length(), sequence.pointer(), sequence.length(), o, out.room(), w)
+    };
+    match status {
+        0 => Ok(Answer::Unfolded(out.output(written.value()?)?)),
+        status => refused(status, &[&out, &written]),
+    }
+}
+
+fn clauses(sheet: &Input, sequence: &Input, room: usize) -> Result<Answer, String> {
+    let (mut out, mut written) = (Lent::new(room), Lent::one());
+    let (mut variables, mut number) = (Lent::one(), Lent::one());
+    let status = unsafe {
+        let (o, w, v, n) = (out.pointer(), written.pointer(), variables.pointer(), number.pointer());
+        rulesheet_clauses(
+            sheet.pointer(),
+            sheet.length(),
+            sequence.pointer(),
+            sequence.length(),
+            o,
+            out.room(),
+            w,
+            v,
+            n,
+        )
+    };
+    if status != 0 {
+        return refused(status, &[&out, &written, &variables, &number]);
+    }
+    let words = out.output(written.value()?)?;
+    Ok(Answer::Clauses { words, variables: variables.value()?, clauses: number.value()? })
+}
+
+fn count(sheet: &Input) -> Result<Answer, String> {
+    let (mut count, mut verdict) = (Lent::one(), Lent::one());
+    match unsafe { rulesheet_count(sheet.pointer(), sheet.length(), count.pointer(), verdict.pointer()) } {
+        0 => Ok(Answer::Count { count: count.value()?, verdict: verdict.value()? }),
+        status => refused(status, &[&count, &verdict]),
+    }
+}
+
+impl Library {
+    fn run_program(&self, input: &[u8]) -> Result<Answer, String> {
+        let failed = |error: std::io::Error| format!("{}: {error}", self.program.display());
+        let mut child =
+            Command::new(&self.program).stdin(Stdio::piped()).stdout(Stdio::piped()).spawn().map_err(failed)?;
+        let mut pipe = child.stdin.take().expect("standard input is a pipe");
+        // The program may end before it has read everything.
+        let output = thread::scope(|scope| {
+            scope.spawn(move || pipe.write_all(input).ok());
+            child.wait_with_output().map_err(failed)
+        })?;
+        Ok(Answer::Text(String::from_utf8_lossy(&output.stdout).into_owned()))
+    }
+}

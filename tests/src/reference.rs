@@ -1,0 +1,168 @@
+//! A plain implementation of every operation, from the description of the format alone.
+
+mod chains;
+mod graph;
+mod questions;
+mod states;
+mod unfolded;
+
+pub use chains::all_found;
+pub use graph::Graph;
+pub use questions::{sequence as read_sequence, sheet as read_sheet};
+pub use unfolded::Unfolded;
+
+use crate::service::{Answer, Call, Operation, Service};
+use crate::sheet::{sequence_bytes, Sheet};
+use states::{answer_sets, negated};
+
+/// A refusal: the number of the first question whose answer is no.
+pub type Refusal = u32;
+
+const LARGEST_COMPONENT: usize = 10;
+const MOST_NEGATED: usize = 16;
+const PROGRAM_INPUT: usize = 65_536;
+pub const PROGRAM_ROOM: usize = 16_384;
+
+pub struct Reference;
+
+impl Service for Reference {
+    fn offers(&self, _: Operation) -> bool {
+        true
+    }
+
+    fn answer(&self, call: &Call) -> Result<Answer, String> {
+        Ok(answer(call))
+    }
+}
+
+pub fn answer(call: &Call) -> Answer {
+    let answer = match call.operation {
+        Operation::Read => read(&call.sheet),
+        Operation::Body => body(&call.sheet, call.number),
+        Operation::Components => components(&call.sheet),
+        Operation::Default => default(&call.sheet),
+        Operation::Test => test(&call.sheet, &call.sequence),
+        Operation::Unfolded => unfolded(&call.sheet, &call.sequence),
+        Operation::Clauses => clauses(&call.sheet, &call.sequence),
+        Operation::Count => count(&call.sheet),
+        Operation::Program => Ok(Answer::Text(program(&call.sheet))),
+    };
+    within(answer.unwrap_or_else(Answer::Refused), call.room)
+}
+
+/// Question 10: the answer in that room; with no room given, every output fits.
+pub fn within(answer: Answer, room: Option<usize>) -> Answer {
+    match room {
+        Some(room) if answer.length() > room => Answer::Refused(10),
+        _ => answer,
+    }
+}
+
+/// Questions 1 to 7.
+fn accepted(bytes: &[u8]) -> Result<(Sheet, Graph), Refusal> {
+    let sheet = questions::sheet(bytes)?;
+    let graph = Graph::new(&sheet);
+    if graph.components().any(|component| component.len() > LARGEST_COMPONENT) {
+        return Err(7);
+    }
+    Ok((sheet, graph))
+}
+
+/// Questions 1 to 9.
+fn accepted_together(sheet: &[u8], sequence: &[u8]) -> Result<(Sheet, Graph, Vec<u8>), Refusal> {
+    let (sheet, graph) = accepted(sheet)?;
+    let entries = questions::sequence(sequence, sheet.atoms)?;
+    if !all_found(&graph, &entries) {
+        return Err(9);
+    }
+    Ok((sheet, graph, entries))
+}
+
+fn read(sheet: &[u8]) -> Result<Answer, Refusal> {
+    let (sheet, _) = accepted(sheet)?;
+    Ok(Answer::Read { atoms: sheet.atoms.into(), records: sheet.records.len() as u64 })
+}
+
+fn body(bytes: &[u8], number: u64) -> Result<Answer, Refusal> {
+    let (sheet, _) = accepted(bytes)?;
+    if number >= sheet.records.len() as u64 {
+        return Err(12);
+    }
+    let number = number as usize;
+    let record = &sheet.records[number];
+    let start = sheet.record_at(number) + 4;
+    let stretch = [&record.positives[..], &record.negatives[..]].concat();
+    Ok(Answer::Body { positives: record.positives.len() as u64, stretch, offset: start as u64 })
+}
+
+fn components(sheet: &[u8]) -> Result<Answer, Refusal> {
+    let (sheet, graph) = accepted(sheet)?;
+    Ok(Answer::Bytes((0..sheet.atoms).map(|atom| graph.smallest(atom)).collect()))
+}
+
+fn default(sheet: &[u8]) -> Result<Answer, Refusal> {
+    let (_, graph) = accepted(sheet)?;
+    Ok(Answer::Bytes(sequence_bytes(&graph.default_sequence())))
+}
+
+fn test(sheet: &[u8], sequence: &[u8]) -> Result<Answer, Refusal> {
+    accepted_together(sheet, sequence).map(|_| Answer::Passed)
+}
+
+/// The unfolded program of a sheet and a sequence that are accepted together.
+pub fn unfold(sheet: &[u8], sequence: &[u8]) -> Result<(Graph, Unfolded), Refusal> {
+    let (sheet, graph, entries) = accepted_together(sheet, sequence)?;
+    let unfolded = Unfolded::new(&sheet, &graph, &entries);
+    Ok((graph, unfolded))
+}
+
+fn unfolded(sheet: &[u8], sequence: &[u8]) -> Result<Answer, Refusal> {
+    let (_, unfolded) = unfold(sheet, sequence)?;
+    Ok(Answer::Unfolded(unfolded.words()))
+}
+
+fn clauses(sheet: &[u8], sequence: &[u8]) -> Result<Answer, Refusal> {
+    let (_, unfolded) = unfold(sheet, sequence)?;
+    let clauses = unfolded.clauses();
+    let number = clauses.len() as u64;
+    let words = clauses.into_iter().flat_map(|clause| [clause, vec![0]].concat()).collect();
+    Ok(Answer::Clauses { words, variables: unfolded.variables().into(), clauses: number })
+}
+
+fn count(sheet: &[u8]) -> Result<Answer, Refusal> {
+    let (sheet, _) = accepted(sheet)?;
+    if negated(&sheet).len() > MOST_NEGATED {
+        return Err(11);
+    }
+    let count = answer_sets(&sheet).len() as u64;
+    Ok(Answer::Count { count, verdict: count.min(2) })
+}
+
+/// The call that the clause program makes: the length field divides the sheet from the sequence.
+pub fn program_call(input: &[u8]) -> Call {
+    let input = &input[..input.len().min(PROGRAM_INPUT)];
+    let length = input.get(1..3).map(|field| usize::from(u16::from_be_bytes([field[0], field[1]])));
+    let (sheet, sequence) = match length {
+        Some(length) if length <= input.len() => input.split_at(length),
+        _ => (input, &[][..]),
+    };
+    Call::new(Operation::Clauses, sheet).sequence(sequence).room(PROGRAM_ROOM)
+}
+
+/// What the clause program prints.
+pub fn program(input: &[u8]) -> String {
+    match answer(&program_call(input)) {
+        Answer::Refused(number) => format!("refused {number}\n"),
+        Answer::Clauses { words, variables, clauses } => dimacs(&words, variables, clauses),
+        other => unreachable!("{other}"),
+    }
+}
+
+fn dimacs(words: &[i32], variables: u64, clauses: u64) -> String {
+    let mut text = format!("p cnf {variables} {clauses}\n");
+    for word in words {
+        text += &word.to_string();
+        text += if *word == 0 { "\n" } else { " " };
+    }
+    text
+}
