@@ -1,19 +1,19 @@
 -- Laws of counting by decisions: two bounds on every settled state that agrees, and the two ways to decide an atom.
 use mathlib.Core.Bool.{Bool, true, false, not, _&&_, _||_, Bool·beq, and-assoc, and-true}
-use mathlib.Core.List.{List, [], _∷_, map, List·Memᴰ, List·Memᴰ·head, List·Memᴰ·tail, List·Memᴰ·not-nil, List·Memᴰ·eq-of-singleton, Memᴰ·map, Memᴰ·of-map, Pairwise·nil}
+use mathlib.Core.List.{List, [], _∷_, map, List·Memᴰ, List·Memᴰ·head, List·Memᴰ·not-nil, List·Memᴰ·eq-of-singleton, Memᴰ·map, Memᴰ·of-map, Pairwise·nil}
 use mathlib.Core.Logic.{_⊎_, inl, inr, ⊎-elim}
 use mathlib.Core.Path.{_≡_, refl, sym, _∙_, ap, subst, fun-ext}
-use Prim.Native.Nat.{ℕ, zero, suc, _+_, _≤_, _<_}
+use Prim.Native.Nat.{ℕ, _+_, _<_}
 use native.Mathlib.Omega.{arith}
-use borrow.Author.Tests.{eqb-true, eqb-false, eq-eqb, ne-eqb, ltb-true, lt-ltb}
-use lib.Dec.{eqb, ltb}
-use lib.ListN.{length, length-append}
-use Rattle.lists.specs.Lists.{all, any, filter, range}
-use Rattle.lists.proofs.Bools.{by-bool, true-false, is-true, is-false, bool-ext, and-intro, and-left, and-right, or-cases, or-left, or-right, not-intro, not-elim}
-use Rattle.lists.proofs.Members.{all-at, all-intro, all-cong, any-at, any-intro, filter-cong, filter-in, filter-none, filter-out, filter-parts, range-in, range-out}
+use borrow.Author.Tests.{eqb-true, eq-eqb}
+use lib.Dec.{eqb}
+use lib.ListN.{length}
+use Rattle.lists.specs.Lists.{all, filter, range}
+use Rattle.lists.proofs.Bools.{by-bool, true-false, is-false, bool-ext, and-intro, and-left, and-right, or-cases, or-left, or-right, not-intro, not-elim}
+use Rattle.lists.proofs.Members.{all-at, all-intro, any-at, any-intro, filter-cong, filter-in, filter-none, filter-out, filter-parts, range-in, range-out}
 use Rattle.lists.proofs.Nodup.{nodup-cons, nodup-filter, nodup-same}
 use Rattle.asp.specs.Program.{Body, Rule, Program, State, outside, holds}
-use Rattle.asp.specs.LeastModel.{Definite, consequences, rounds, leastModel, Closed, Inside, Least}
+use Rattle.asp.specs.LeastModel.{Definite, consequences, leastModel, Inside, Least}
 use Rattle.asp.specs.Settled.{definite, reduct, derived, lawful, isSettled}
 use Rattle.asp.specs.Count.{empty, with, states, settledStates, count}
 use Rattle.asp.specs.Decided.{CountRule, countRules, chosen, applies, isSettledBy, agrees, surely, possibly, countBy}

@@ -6,7 +6,7 @@ use native.Mathlib.Nat.{mod-lt, zero-lt-suc, div-lt-iff-lt-mul, pow-suc, one-mul
 use native.Mathlib.Omega.{arith}
 use borrow.Author.Tests.{eqb-true, eq-eqb, ne-eqb, ltb-true, ltb-false}
 use lib.Arith.{digits-mod, lt-one}
-use lib.Bits.{bitAnd, bitOr, bitXor, differ, and-le-l, and-shr, or-shr, xor-shr, and-step, or-step, xor-step}
+use lib.Bits.{bitAnd, bitOr, bitXor, differ, and-le-l, and-le-r, or-add-and, and-shr, or-shr, xor-shr, and-step, or-step, xor-step}
 use lib.Count.{ones, ones-step}
 use lib.Dec.{eqb, ltb, lit<}
 use lib.Pow.{pow-pos, pow-lt, shl-exact, shl-shr, shr-shr, pow-add}
@@ -49,6 +49,9 @@ or-has x y a =
     ap (λ n. eqb (n % 2) 1) (or-shr x y a ∙ or-step u v)
     ∙ (ap (λ n. eqb n 1) (step-mod (bitOr (u / 2) (v / 2)) (max (u % 2) (v % 2)) (max-digit (u % 2) (v % 2) (digit u) (digit v)))
     ∙ max-is-or (u % 2) (v % 2) (digit u) (digit v))
+
+pub or-grows : (x y : ℕ) → x ≤ bitOr x y
+or-grows x y = let e = or-add-and x y in let k = and-le-r x y in omega arith
 
 pub and-has : (x y a : ℕ) → has (bitAnd x y) a ≡ (has x a && has y a)
 and-has x y a =

@@ -2,7 +2,7 @@
 use mathlib.Core.Bool.{Bool, true, not, _&&_, _||_}
 use mathlib.Core.List.{List}
 use mathlib.Core.Path.{_≡_}
-use Prim.Native.Nat.{ℕ, _/_, _%_, _^_, _<_}
+use Prim.Native.Nat.{ℕ, _/_, _%_, _^_, _≤_, _<_}
 use lib.Dec.{eqb}
 use lib.ListN.{length, getD}
 use Rattle.lists.specs.Lists.{filter, member, range}
@@ -13,6 +13,7 @@ has x a = eqb (x / 2 ^ a % 2) 1
 
 -- r is the set x with a.
 pub record With (x a r : ℕ) : Type 0 where
+  pub grows : x ≤ r
   pub members : (b : ℕ) → has r b ≡ (eqb b a || has x b)
 
 -- r is the set of the numbers of the list.
@@ -32,6 +33,10 @@ pub record Subset (x y : ℕ) (r : Bool) : Type 0 where
 -- r has the numbers that are in both.
 pub record Both (x y r : ℕ) : Type 0 where
   pub members : (a : ℕ) → has r a ≡ (has x a && has y a)
+
+-- r has the numbers that are in either.
+pub record Either (x y r : ℕ) : Type 0 where
+  pub members : (a : ℕ) → has r a ≡ (has x a || has y a)
 
 -- r has the numbers of x that are not in y.
 pub record Difference (x y r : ℕ) : Type 0 where

@@ -2,7 +2,7 @@
 ghost use mathlib.Core.Path.{_≡_};
 ghost use mathlib.Core.Bool.{true};
 ghost use Prim.Native.Nat.{_<_};
-ghost use Rattle.bits.specs.Sets.{has, With, ByteAt, Gathered, Subset, Both, Difference, Size};
+ghost use Rattle.bits.specs.Sets.{has, With, ByteAt, Gathered, Subset, Both, Either, Difference, Size};
 ghost use Rattle.lists.specs.Lists.{below};
 
 // Is a in the set?
@@ -76,4 +76,11 @@ pub fn size(x: u64) -> u32
     ensures { λ r. ⌜ Size x r ⌝ }
 {
     u64::count_ones(x)
+}
+
+// The atoms in one set or the other.
+pub fn union(x: u64, y: u64) -> u64
+    ensures { λ r. ⌜ Either x y r ⌝ }
+{
+    x | y
 }

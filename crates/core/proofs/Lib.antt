@@ -1,3 +1,4 @@
+pub mod Counting
 pub mod Default
 pub mod Reading
 pub mod Writing

@@ -1,9 +1,10 @@
 -- The questions of each operation ("The questions" of document 01), in their order.
-use mathlib.Core.List.{List}
+use mathlib.Core.List.{List, [], _∷_}
 use mathlib.Core.Path.{_≡_}
 use Prim.Native.Nat.{ℕ}
 use lib.Dec.{leb, ltb}
 use lib.ListN.{length}
+use Rattle.asp.specs.Count.{count, verdict}
 use Rattle.unfolding.specs.Chain.{passes}
 use Rattle.sheet.specs.Questions.{ask, _then_}
 use Rattle.sheet.specs.Format.{atomsByte, recordsByte}
@@ -11,6 +12,8 @@ use Rattle.sheet.specs.Sequence.{sequenceFits, entries}
 use Rattle.sheet.specs.Sheet.{program}
 use Rattle.sheet.specs.declared.Limits.{Limits}
 use Rattle.components.specs.Table.{sheetQuestions}
+use Rattle.masks.specs.Negated.{negatedAtoms}
+use Rattle.core.specs.Outcome.{code}
 use Rattle.core.specs.Outputs.{componentBytes, defaultBytes}
 
 -- Reading: 1 to 7.
@@ -31,6 +34,13 @@ defaultQuestions L room s = sheetQuestions L s then ask (leb (length (defaultByt
 -- Testing a sequence: 1 to 9.
 abbrev pub testQuestions : Limits → List ℕ → List ℕ → ℕ
 testQuestions L s q = sheetQuestions L s then ask (sequenceFits L (atomsByte s) q) 8 then ask (passes (program s) (entries q)) 9
+
+-- Counting: 1 to 7, then 11, no more than 16 atoms stand in the negative list of a rule. It answers the count and the verdict.
+abbrev pub countQuestions : Limits → List ℕ → ℕ
+countQuestions L s = sheetQuestions L s then ask (leb (length (negatedAtoms (program s))) 16) 11
+
+abbrev pub countValues : List ℕ → List ℕ
+countValues s = count (program s) ∷ code (verdict (count (program s))) ∷ []
 
 -- What the default sequence writes is accepted by questions 8 and 9, where the entries allowed are as many as
 -- all atoms in components of the largest size need.

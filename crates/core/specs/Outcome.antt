@@ -5,12 +5,17 @@ use mathlib.Core.Path.{_≡_}
 use Prim.Native.Nat.{ℕ}
 use lib.Dec.{eqb}
 use lib.ListN.{length, drop}
+use Rattle.asp.specs.Count.{Verdict, none, clear, split}
 use Rattle.core.specs.declared.ReadAnswer.{ReadAnswer}
 use Rattle.core.specs.declared.ReadAnswer.the-variants as read
 use Rattle.core.specs.declared.BodyAnswer.{BodyAnswer}
 use Rattle.core.specs.declared.BodyAnswer.the-variants as body
 use Rattle.core.specs.declared.WriteAnswer.{WriteAnswer}
 use Rattle.core.specs.declared.WriteAnswer.the-variants as write
+use Rattle.core.specs.declared.Verdict as declared
+use Rattle.core.specs.declared.Verdict.the-variants as verdict
+use Rattle.core.specs.declared.CountAnswer.{CountAnswer}
+use Rattle.core.specs.declared.CountAnswer.the-variants as counted
 
 pub data Outcome : Type 0 where
   refused : ℕ → Outcome
@@ -32,6 +37,21 @@ bodyOf (body.Positives p) = answered (p ∷ [])
 abbrev pub writeOf : WriteAnswer → Outcome
 writeOf (write.Refused q) = refused q
 writeOf (write.Length l) = answered (l ∷ [])
+
+-- A verdict as a number.
+abbrev pub code : Verdict → ℕ
+code none = 0
+code clear = 1
+code split = 2
+
+abbrev pub verdictOf : declared.Verdict → Verdict
+verdictOf verdict.None = none
+verdictOf verdict.Clear = clear
+verdictOf verdict.Split = split
+
+abbrev pub countOf : CountAnswer → Outcome
+countOf (counted.Refused q) = refused q
+countOf (counted.Counted c v) = answered (c ∷ code (verdictOf v) ∷ [])
 
 -- An operation that writes: it answers the length written, and the buffer holds the output and, behind it, what it held;
 -- on a refusal it is as it was.

@@ -14,13 +14,14 @@ ghost use Prim.Native.Nat.{ℕ, _+_, _≤_, _<_};
 ghost use lib.Dec.{eqb};
 ghost use lib.ListN.{length};
 ghost use Rattle.sheet.specs.Format.{atomsByte, recordsByte, positives};
-ghost use Rattle.core.specs.Outcome.{readOf, bodyOf, outcome, Writes};
+ghost use Rattle.asp.specs.Count.{count, verdict};
+ghost use Rattle.sheet.specs.Sheet.{Walk, program};
+ghost use Rattle.core.specs.Outcome.{readOf, bodyOf, verdictOf, countOf, outcome, Writes};
 ghost use Rattle.core.specs.Outputs.{componentBytes, defaultBytes, sequenceHeader, place, stretch};
 ghost use Rattle.outputs.specs.Names.{blocksOf};
 ghost use Rattle.writer.specs.Wrote.{Wrote};
-ghost use Rattle.sheet.specs.Sheet.{Walk};
 ghost use Rattle.core.specs.Bodies.{Placed, BodyFound};
-ghost use Rattle.core.specs.Operations.{readQuestions, bodyQuestions, componentsQuestions, defaultQuestions};
+ghost use Rattle.core.specs.Operations.{readQuestions, bodyQuestions, componentsQuestions, defaultQuestions, countQuestions, countValues};
 
 // Reading: the refusal, or the numbers of atoms and records.
 pub enum ReadAnswer {
@@ -38,6 +39,19 @@ pub enum BodyAnswer {
 pub enum WriteAnswer {
     Refused(u32),
     Length(usize),
+}
+
+// Whether there is no settled state, one, or more.
+pub enum Verdict {
+    None,
+    Clear,
+    Split,
+}
+
+// Counting: the refusal, or the number of settled states with the verdict.
+pub enum CountAnswer {
+    Refused(u32),
+    Counted(u64, Verdict),
 }
 
 // Reading a sheet.
@@ -201,4 +215,37 @@ pub fn default_sequence(limits: Limits, s: &[u8], out: &mut [u8]) -> WriteAnswer
     let at = put_header(out, t);
     let length = put_blocks(out, at, &names, n);
     WriteAnswer::Length(length)
+}
+
+fn verdict_on(states: u64) -> Verdict
+    ensures { λ r. ⌜ verdictOf r ≡ verdict states ⌝ }
+{
+    if states == 0 {
+        return Verdict::None;
+    }
+    if states == 1 {
+        return Verdict::Clear;
+    }
+    Verdict::Split
+}
+
+// Counting the settled states.
+pub fn count(limits: Limits, s: &[u8]) -> CountAnswer
+    requires { ⌜ (limits .atoms ≤ 64) × (limits .records ≤ 128) ⌝ }
+    ensures { λ r. ⌜ countOf r ≡ outcome (countQuestions limits (now (s .entry))) (countValues (now (s .entry))) ⌝ }
+{
+    let a = analyse(limits, s);
+    let q = a.refusal;
+    if q != 0 {
+        return CountAnswer::Refused(q);
+    }
+    let n = a.atoms;
+    let m = a.records;
+    let found = masks::count(s, n, m);
+    let states = found.states;
+    if found.crowded {
+        return CountAnswer::Refused(11);
+    }
+    let v = verdict_on(states);
+    CountAnswer::Counted(states, v)
 }

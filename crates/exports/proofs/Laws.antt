@@ -10,11 +10,14 @@ use lib.ListN.{length}
 use Rattle.lists.proofs.Bools.{by-bool}
 use Rattle.sheet.specs.Format.{end, positives}
 use Rattle.sheet.specs.declared.Limits.{Limits}
-use Rattle.core.specs.Outcome.{refused, answered, outcome, readOf, writeOf, Writes}
+use Rattle.core.specs.Outcome.{refused, answered, outcome, code, readOf, verdictOf, countOf, writeOf, Writes}
 use Rattle.core.specs.Outputs.{place}
 use Rattle.core.specs.Operations.{bodyQuestions}
 use Rattle.core.specs.Bodies.{BodyFound}
 use Rattle.core.specs.declared.BodyPlace.{BodyPlace}
+use Rattle.core.specs.declared.CountAnswer.{CountAnswer}
+use Rattle.core.specs.declared.CountAnswer.the-variants as counted
+use Rattle.core.specs.declared.Verdict.{Verdict}
 use Rattle.core.specs.declared.ReadAnswer.{ReadAnswer}
 use Rattle.core.specs.declared.ReadAnswer.the-variants as read
 use Rattle.core.specs.declared.WriteAnswer.{WriteAnswer}
@@ -53,6 +56,20 @@ module _ (q x y old-x old-y : ℕ) (answer : ReadAnswer) (says : readOf answer �
       let a : n ≡ x = cc same in
       let b : m ≡ y = cc same in
       record { says = sym (eqb-true q 0 (u .1)); first = a ∙ taken q x old-x (u .1); second = b ∙ taken q y old-y (u .1) }
+
+module _ (q x y old-x old-y : ℕ) (answer : CountAnswer) (says : countOf answer ≡ outcome q (x ∷ y ∷ [])) where
+  pub count-no : (k : ℕ) → answer ≡ counted.Refused k → Two q k x y old-x old-y old-x old-y
+  count-no k e =
+      let u = is-refused k q (x ∷ y ∷ []) (sym (ap countOf e) ∙ says) in
+      record { says = u .0; first = kept q x old-x (u .1); second = kept q y old-y (u .1) }
+
+  pub count-yes : (c d : ℕ) (v : Verdict) → answer ≡ counted.Counted c v → d ≡ code (verdictOf v) → Two q 0 x y old-x old-y c d
+  count-yes c d v e w =
+      let u = is-answered (c ∷ code (verdictOf v) ∷ []) q (x ∷ y ∷ []) (sym (ap countOf e) ∙ says) in
+      let same = u .0 in
+      let a : c ≡ x = cc same in
+      let b : code (verdictOf v) ≡ y = cc same in
+      record { says = sym (eqb-true q 0 (u .1)); first = a ∙ taken q x old-x (u .1); second = w ∙ (b ∙ taken q y old-y (u .1)) }
 
 module _ {A : Type 0} (q old-length : ℕ) (output old new : List A) (answer : WriteAnswer) (W : Writes q output old new answer) where
   pub write-no : (k : ℕ) → answer ≡ write.Refused k → Output q k output old new old-length old-length

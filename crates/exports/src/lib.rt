@@ -1,16 +1,22 @@
 // The operations for C and Rust: include/rulesheet.h declares them.
+use core::CountAnswer;
 use core::ReadAnswer;
+use core::Verdict;
 use core::WriteAnswer;
 use office::components;
+use office::count;
 use office::default_sequence;
 use office::find_body;
 use office::read;
 ghost use mathlib.Core.Path.{_≡_};
 ghost use Prim.Native.Nat.{_+_, _-_};
 ghost use lib.ListN.{length};
+ghost use Rattle.asp.specs.Count.{count, verdict};
+ghost use Rattle.sheet.specs.Sheet.{program};
 ghost use Rattle.sheet.specs.Format.{atomsByte, recordsByte, positives, end};
+ghost use Rattle.core.specs.Outcome.{code, verdictOf};
 ghost use Rattle.core.specs.Outputs.{componentBytes, defaultBytes, place};
-ghost use Rattle.core.specs.Operations.{readQuestions, bodyQuestions, componentsQuestions, defaultQuestions};
+ghost use Rattle.core.specs.Operations.{readQuestions, bodyQuestions, componentsQuestions, defaultQuestions, countQuestions};
 ghost use Rattle.office.specs.Office.{office};
 ghost use Rattle.exports.specs.Exported.{Two, Three, Output};
 
@@ -79,6 +85,32 @@ pub extern "C" fn rulesheet_default(sheet: &[u8], out: &mut [u8], written: &mut 
         WriteAnswer::Refused(q) => q,
         WriteAnswer::Length(l) => {
             *written = l;
+            0
+        }
+    }
+}
+
+fn verdict_code(v: Verdict) -> u64
+    ensures { λ r. ⌜ r ≡ code (verdictOf v) ⌝ }
+{
+    match v {
+        Verdict::None => 0,
+        Verdict::Clear => 1,
+        Verdict::Split => 2,
+    }
+}
+
+// Counting the settled states.
+#[no_mangle]
+pub extern "C" fn rulesheet_count(sheet: &[u8], states: &mut u64, outcome: &mut u64) -> u32
+    ensures { λ r. ⌜ Two (countQuestions office (now (sheet .entry))) r (count (program (now (sheet .entry)))) (code (verdict (count (program (now (sheet .entry)))))) (now (states .entry)) (now (outcome .entry)) (now (states .exit)) (now (outcome .exit)) ⌝ }
+{
+    let answer = count(sheet);
+    match answer {
+        CountAnswer::Refused(q) => q,
+        CountAnswer::Counted(c, v) => {
+            *states = c;
+            *outcome = verdict_code(v);
             0
         }
     }

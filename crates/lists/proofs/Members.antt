@@ -2,7 +2,7 @@
 use mathlib.Core.Bool.{Bool, true, false, not, _&&_, _||_, false≢true}
 use mathlib.Core.List.{List, [], _∷_, _++_, map, flatMap, List·Memᴰ, List·Memᴰ·head, List·Memᴰ·tail, List·Memᴰ·not-nil, List·Memᴰ·cases-cons, List·Memᴰ·append-cases, Memᴰ·append-left, Memᴰ·append-right}
 use mathlib.Core.Logic.{⊎-elim}
-use mathlib.Core.Path.{_≡_, refl, sym, _∙_, ap, subst}
+use mathlib.Core.Path.{_≡_, refl, sym, _∙_, ap, ap₂, subst}
 use Prim.Native.Nat.{ℕ, zero, suc, _+_, _-_, _≤_, _<_}
 use native.Mathlib.Numerals.{add-one}
 use native.Mathlib.Omega.{arith}
@@ -81,6 +81,11 @@ module _ {A : Type 0} where
   filter-cong p q [] h = refl
   filter-cong p q (x ∷ l) h =
       rw (h x (List·Memᴰ·head refl), filter-cong p q l (λ y m. h y (List·Memᴰ·tail m))) refl
+
+  pub filter-append : (p : A → Bool) (l m : List A) → filter p (l ++ m) ≡ filter p l ++ filter p m
+  unfolding filter
+  filter-append p [] m = refl
+  filter-append p (x ∷ l) m = by-bool (p x) (λ t. rw t (ap (λ k. x ∷ k) (filter-append p l m))) (λ f. rw f (filter-append p l m))
 
   pub filter-none : (p : A → Bool) (l : List A) → ((x : A) → List·Memᴰ x l → p x ≡ false) → filter p l ≡ []
   unfolding filter
@@ -197,3 +202,11 @@ range-left a n l =
 pub range-over : (a n : ℕ) → n ≤ a → range a (n - a) ≡ []
 unfolding range
 range-over a n l = let e : n - a ≡ 0 = omega arith in ap (range a) e
+
+pub range-append : (a j k : ℕ) → range a (j + k) ≡ range a j ++ range (a + j) k
+unfolding range
+range-append a zero k = ap₂ range (let e : a ≡ a + 0 = omega arith in e) (let e : 0 + k ≡ k = omega arith in e)
+range-append a (suc j) k =
+    let e : suc j + k ≡ suc (j + k) = omega arith in
+    let f : suc a + j ≡ a + suc j = omega arith in
+    ap (range a) e ∙ ap (λ l. a ∷ l) (range-append (suc a) j k ∙ ap (λ i. range (suc a) j ++ range i k) f)

@@ -11,6 +11,9 @@ use Rattle.office.specs.Office.{office}
 pub few-atoms : (L : Limits) → L ≡ office → L .atoms ≤ 64
 few-atoms L e = let k = ap (λ (L : Limits). L .atoms) e in omega arith
 
+pub few-records : (L : Limits) → L ≡ office → L .records ≤ 128
+few-records L e = let k = ap (λ (L : Limits). L .records) e in omega arith
+
 pub small-components : (L : Limits) → L ≡ office → L .component ≤ 64
 small-components L e = let k = ap (λ (L : Limits). L .component) e in omega arith
 

@@ -1,6 +1,7 @@
 // The public operations, with the office's limits. Each takes any bytes and finishes.
 use core::BodyAnswer;
 use core::BodyPlace;
+use core::CountAnswer;
 use core::ReadAnswer;
 use core::WriteAnswer;
 use sheet::Limits;
@@ -10,10 +11,10 @@ ghost use mathlib.Core.Bool.{cond};
 ghost use lib.Dec.{eqb};
 ghost use lib.ListN.{length};
 ghost use Rattle.sheet.specs.Format.{atomsByte, recordsByte, positives};
-ghost use Rattle.core.specs.Outcome.{readOf, bodyOf, outcome, Writes};
+ghost use Rattle.core.specs.Outcome.{readOf, bodyOf, countOf, outcome, Writes};
 ghost use Rattle.core.specs.Bodies.{BodyFound};
 ghost use Rattle.core.specs.Outputs.{componentBytes, defaultBytes, place, stretch};
-ghost use Rattle.core.specs.Operations.{readQuestions, bodyQuestions, componentsQuestions, defaultQuestions};
+ghost use Rattle.core.specs.Operations.{readQuestions, bodyQuestions, componentsQuestions, defaultQuestions, countQuestions, countValues};
 ghost use Rattle.office.specs.Office.{office};
 
 fn limits() -> Limits
@@ -67,4 +68,11 @@ pub fn find_body(s: &[u8], number: usize) -> BodyPlace
     ensures { λ r. ⌜ BodyFound office number (now (s .entry)) r ⌝ }
 {
     core::find_body(limits(), s, number)
+}
+
+// Counting the settled states: the refusal, or their number and the verdict.
+pub fn count(s: &[u8]) -> CountAnswer
+    ensures { λ r. ⌜ countOf r ≡ outcome (countQuestions office (now (s .entry))) (countValues (now (s .entry))) ⌝ }
+{
+    core::count(limits(), s)
 }

@@ -1,8 +1,9 @@
 -- `components::Reach::add` meets its contract, one law for each way through it.
 use borrow.Author.Needs.{needs}
-use Rattle.components.proofs.Linking.{gather-low, head-fits, added-none, added-rule}
+use Rattle.components.proofs.Linking.{added-none, added-rule}
 use Rattle.components.proofs.Reach.add.Statement.{statement}
 use Rattle.components.proofs.Reach.add.Tie as tie
+use Rattle.sheet.proofs.Known.{gather-low, head-fits}
 
 add-byte-at : tie.Need-add-byte-at
 add-byte-at c = search needs

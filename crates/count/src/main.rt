@@ -1,0 +1,38 @@
+// A sheet on standard input, one line out: the number of settled states and the verdict, or the refusal.
+use core::CountAnswer;
+use core::Verdict;
+use io::print_decimal;
+use io::write_all;
+
+fn print_verdict(v: Verdict) -> bool {
+    match v {
+        Verdict::None => write_all(1, b" none\n"),
+        Verdict::Clear => write_all(1, b" clear\n"),
+        Verdict::Split => write_all(1, b" split\n"),
+    }
+}
+
+fn print_counted(states: u64, v: Verdict) -> bool {
+    print_decimal(1, states);
+    print_verdict(v)
+}
+
+fn print_refused(q: u32) -> bool {
+    write_all(1, b"refused ");
+    print_decimal(1, q as u64);
+    write_all(1, b"\n")
+}
+
+fn main() {
+    let mut input = io::large_buffer();
+    let n = io::read_full(0, &mut input);
+    let answer = office::count(&input[..n]);
+    match answer {
+        CountAnswer::Refused(q) => {
+            print_refused(q);
+        }
+        CountAnswer::Counted(states, v) => {
+            print_counted(states, v);
+        }
+    }
+}

@@ -1,0 +1,390 @@
+-- `counting::branch` meets its contract, one law for each way through it.
+use Prim.Native.Nat.{ℕ, _-_, _<_}
+use native.Mathlib.Omega.{arith}
+use borrow.Author.Needs.{needs}
+use borrow.Author.Tests.{not-true, not-false}
+use borrow.Fn.Kinds.{In}
+use borrow.Fn.PlainCycle.{Measures, is, falls, and}
+use Rattle.bits.proofs.intersection.Reads as intersection-reads
+use Rattle.bits.proofs.subset.Reads as subset-reads
+use Rattle.bits.proofs.wide.Reads as wide-reads
+use Rattle.bits.proofs.with.Reads as with-reads
+use Rattle.counting.proofs.+branch.Lts-branch as branch-lts
+use Rattle.counting.proofs.+branch.Tie.{close}
+use Rattle.counting.proofs.+branch.{statement}
+use Rattle.counting.proofs.Search.{found-met, found-lacks, found-one, found-none, found-sum, low-here, few}
+use Rattle.counting.proofs.branch.Kinds as branch-kinds
+use Rattle.counting.proofs.branch.Reads as branch
+use Rattle.counting.proofs.lawful.Reads as lawful-reads
+use Rattle.counting.proofs.least.Reads as least-reads
+
+abbrev μ-branch : Measures 7 branch-kinds.ps ℕ
+μ-branch κs a = a .1 .1 .1 .1 .1 .1 .1 .1 .1 .0 - a .1 .1 .1 .1 .1 .1 .1 .1 .1 .1 .0
+
+abbrev branch-at : ℕ → In 7 branch-kinds.ps
+branch-at t = and 7 branch-kinds.ps (is 7 branch-kinds.ps μ-branch t) branch.Pre
+
+abbrev branch-below : ℕ → In 7 branch-kinds.ps
+branch-below t = and 7 branch-kinds.ps (falls 7 branch-kinds.ps _<_ μ-branch t) branch.Pre
+
+branch-least-requires : (t : ℕ) → branch-lts.Need-least-requires (
+  least-reads.Asked,
+  least-reads.Learnt,
+  intersection-reads.Asked,
+  intersection-reads.Learnt,
+  subset-reads.Asked,
+  subset-reads.Learnt,
+  lawful-reads.Asked,
+  lawful-reads.Learnt,
+  wide-reads.Asked,
+  wide-reads.Learnt,
+  with-reads.Asked,
+  with-reads.Learnt,
+  branch-below t,
+  branch.Post,
+) (branch-at t) branch.Post
+branch-least-requires t c κs = search needs
+
+branch-intersection-requires : (t : ℕ) → branch-lts.Need-intersection-requires (
+  least-reads.Asked,
+  least-reads.Learnt,
+  intersection-reads.Asked,
+  intersection-reads.Learnt,
+  subset-reads.Asked,
+  subset-reads.Learnt,
+  lawful-reads.Asked,
+  lawful-reads.Learnt,
+  wide-reads.Asked,
+  wide-reads.Learnt,
+  with-reads.Asked,
+  with-reads.Learnt,
+  branch-below t,
+  branch.Post,
+) (branch-at t) branch.Post
+branch-intersection-requires t c κs = search needs
+
+branch-returns : (t : ℕ) → branch-lts.Need-returns (
+  least-reads.Asked,
+  least-reads.Learnt,
+  intersection-reads.Asked,
+  intersection-reads.Learnt,
+  subset-reads.Asked,
+  subset-reads.Learnt,
+  lawful-reads.Asked,
+  lawful-reads.Learnt,
+  wide-reads.Asked,
+  wide-reads.Learnt,
+  with-reads.Asked,
+  with-reads.Learnt,
+  branch-below t,
+  branch.Post,
+) (branch-at t) branch.Post
+branch-returns t c = search (needs, found-met)
+
+branch-least-requires-2 : (t : ℕ) → branch-lts.Need-least-requires-2 (
+  least-reads.Asked,
+  least-reads.Learnt,
+  intersection-reads.Asked,
+  intersection-reads.Learnt,
+  subset-reads.Asked,
+  subset-reads.Learnt,
+  lawful-reads.Asked,
+  lawful-reads.Learnt,
+  wide-reads.Asked,
+  wide-reads.Learnt,
+  with-reads.Asked,
+  with-reads.Learnt,
+  branch-below t,
+  branch.Post,
+) (branch-at t) branch.Post
+branch-least-requires-2 t c κs = search needs
+
+branch-subset-requires : (t : ℕ) → branch-lts.Need-subset-requires (
+  least-reads.Asked,
+  least-reads.Learnt,
+  intersection-reads.Asked,
+  intersection-reads.Learnt,
+  subset-reads.Asked,
+  subset-reads.Learnt,
+  lawful-reads.Asked,
+  lawful-reads.Learnt,
+  wide-reads.Asked,
+  wide-reads.Learnt,
+  with-reads.Asked,
+  with-reads.Learnt,
+  branch-below t,
+  branch.Post,
+) (branch-at t) branch.Post
+branch-subset-requires t c κs = search needs
+
+branch-returns-2 : (t : ℕ) → branch-lts.Need-returns-2 (
+  least-reads.Asked,
+  least-reads.Learnt,
+  intersection-reads.Asked,
+  intersection-reads.Learnt,
+  subset-reads.Asked,
+  subset-reads.Learnt,
+  lawful-reads.Asked,
+  lawful-reads.Learnt,
+  wide-reads.Asked,
+  wide-reads.Learnt,
+  with-reads.Asked,
+  with-reads.Learnt,
+  branch-below t,
+  branch.Post,
+) (branch-at t) branch.Post
+branch-returns-2 t c = search (needs, not-true, found-lacks)
+
+branch-lawful-requires : (t : ℕ) → branch-lts.Need-lawful-requires (
+  least-reads.Asked,
+  least-reads.Learnt,
+  intersection-reads.Asked,
+  intersection-reads.Learnt,
+  subset-reads.Asked,
+  subset-reads.Learnt,
+  lawful-reads.Asked,
+  lawful-reads.Learnt,
+  wide-reads.Asked,
+  wide-reads.Learnt,
+  with-reads.Asked,
+  with-reads.Learnt,
+  branch-below t,
+  branch.Post,
+) (branch-at t) branch.Post
+branch-lawful-requires t c κs = search needs
+
+branch-returns-3 : (t : ℕ) → branch-lts.Need-returns-3 (
+  least-reads.Asked,
+  least-reads.Learnt,
+  intersection-reads.Asked,
+  intersection-reads.Learnt,
+  subset-reads.Asked,
+  subset-reads.Learnt,
+  lawful-reads.Asked,
+  lawful-reads.Learnt,
+  wide-reads.Asked,
+  wide-reads.Learnt,
+  with-reads.Asked,
+  with-reads.Learnt,
+  branch-below t,
+  branch.Post,
+) (branch-at t) branch.Post
+branch-returns-3 t c = search (needs, not-false, found-one)
+
+branch-returns-4 : (t : ℕ) → branch-lts.Need-returns-4 (
+  least-reads.Asked,
+  least-reads.Learnt,
+  intersection-reads.Asked,
+  intersection-reads.Learnt,
+  subset-reads.Asked,
+  subset-reads.Learnt,
+  lawful-reads.Asked,
+  lawful-reads.Learnt,
+  wide-reads.Asked,
+  wide-reads.Learnt,
+  with-reads.Asked,
+  with-reads.Learnt,
+  branch-below t,
+  branch.Post,
+) (branch-at t) branch.Post
+branch-returns-4 t c = search (needs, not-false, found-none)
+
+branch-element-copy-out-wide : (t : ℕ) → branch-lts.Need-element-copy-out-wide (
+  least-reads.Asked,
+  least-reads.Learnt,
+  intersection-reads.Asked,
+  intersection-reads.Learnt,
+  subset-reads.Asked,
+  subset-reads.Learnt,
+  lawful-reads.Asked,
+  lawful-reads.Learnt,
+  wide-reads.Asked,
+  wide-reads.Learnt,
+  with-reads.Asked,
+  with-reads.Learnt,
+  branch-below t,
+  branch.Post,
+) (branch-at t) branch.Post
+branch-element-copy-out-wide t c = search needs
+
+branch-wide-requires : (t : ℕ) → branch-lts.Need-wide-requires (
+  least-reads.Asked,
+  least-reads.Learnt,
+  intersection-reads.Asked,
+  intersection-reads.Learnt,
+  subset-reads.Asked,
+  subset-reads.Learnt,
+  lawful-reads.Asked,
+  lawful-reads.Learnt,
+  wide-reads.Asked,
+  wide-reads.Learnt,
+  with-reads.Asked,
+  with-reads.Learnt,
+  branch-below t,
+  branch.Post,
+) (branch-at t) branch.Post
+branch-wide-requires t c κs = search needs
+
+branch-add-next : (t : ℕ) → branch-lts.Need-add-next (
+  least-reads.Asked,
+  least-reads.Learnt,
+  intersection-reads.Asked,
+  intersection-reads.Learnt,
+  subset-reads.Asked,
+  subset-reads.Learnt,
+  lawful-reads.Asked,
+  lawful-reads.Learnt,
+  wide-reads.Asked,
+  wide-reads.Learnt,
+  with-reads.Asked,
+  with-reads.Learnt,
+  branch-below t,
+  branch.Post,
+) (branch-at t) branch.Post
+branch-add-next t c = search needs
+
+branch-with-requires : (t : ℕ) → branch-lts.Need-with-requires (
+  least-reads.Asked,
+  least-reads.Learnt,
+  intersection-reads.Asked,
+  intersection-reads.Learnt,
+  subset-reads.Asked,
+  subset-reads.Learnt,
+  lawful-reads.Asked,
+  lawful-reads.Learnt,
+  wide-reads.Asked,
+  wide-reads.Learnt,
+  with-reads.Asked,
+  with-reads.Learnt,
+  branch-below t,
+  branch.Post,
+) (branch-at t) branch.Post
+branch-with-requires t c κs = search (needs, low-here)
+
+branch-branch-requires : (t : ℕ) → branch-lts.Need-branch-requires (
+  least-reads.Asked,
+  least-reads.Learnt,
+  intersection-reads.Asked,
+  intersection-reads.Learnt,
+  subset-reads.Asked,
+  subset-reads.Learnt,
+  lawful-reads.Asked,
+  lawful-reads.Learnt,
+  wide-reads.Asked,
+  wide-reads.Learnt,
+  with-reads.Asked,
+  with-reads.Learnt,
+  branch-below t,
+  branch.Post,
+) (branch-at t) branch.Post
+branch-branch-requires t c κs = (omega arith, search needs)
+
+branch-with-requires-2 : (t : ℕ) → branch-lts.Need-with-requires-2 (
+  least-reads.Asked,
+  least-reads.Learnt,
+  intersection-reads.Asked,
+  intersection-reads.Learnt,
+  subset-reads.Asked,
+  subset-reads.Learnt,
+  lawful-reads.Asked,
+  lawful-reads.Learnt,
+  wide-reads.Asked,
+  wide-reads.Learnt,
+  with-reads.Asked,
+  with-reads.Learnt,
+  branch-below t,
+  branch.Post,
+) (branch-at t) branch.Post
+branch-with-requires-2 t c κs = search (needs, low-here)
+
+branch-branch-requires-2 : (t : ℕ) → branch-lts.Need-branch-requires-2 (
+  least-reads.Asked,
+  least-reads.Learnt,
+  intersection-reads.Asked,
+  intersection-reads.Learnt,
+  subset-reads.Asked,
+  subset-reads.Learnt,
+  lawful-reads.Asked,
+  lawful-reads.Learnt,
+  wide-reads.Asked,
+  wide-reads.Learnt,
+  with-reads.Asked,
+  with-reads.Learnt,
+  branch-below t,
+  branch.Post,
+) (branch-at t) branch.Post
+branch-branch-requires-2 t c κs = (omega arith, search needs)
+
+branch-add-result : (t : ℕ) → branch-lts.Need-add-result (
+  least-reads.Asked,
+  least-reads.Learnt,
+  intersection-reads.Asked,
+  intersection-reads.Learnt,
+  subset-reads.Asked,
+  subset-reads.Learnt,
+  lawful-reads.Asked,
+  lawful-reads.Learnt,
+  wide-reads.Asked,
+  wide-reads.Learnt,
+  with-reads.Asked,
+  with-reads.Learnt,
+  branch-below t,
+  branch.Post,
+) (branch-at t) branch.Post
+branch-add-result t c = omega (arith, few _ _ _ (c .before .before .before .before .before .before .before .before .before .before .before .before .before .pre .1 .3) (c .before .before .branch .ensures .small), few _ _ _ (c .before .before .before .before .before .before .before .before .before .before .before .before .before .pre .1 .3) (c .branch2 .ensures .small))
+
+branch-returns-5 : (t : ℕ) → branch-lts.Need-returns-5 (
+  least-reads.Asked,
+  least-reads.Learnt,
+  intersection-reads.Asked,
+  intersection-reads.Learnt,
+  subset-reads.Asked,
+  subset-reads.Learnt,
+  lawful-reads.Asked,
+  lawful-reads.Learnt,
+  wide-reads.Asked,
+  wide-reads.Learnt,
+  with-reads.Asked,
+  with-reads.Learnt,
+  branch-below t,
+  branch.Post,
+) (branch-at t) branch.Post
+branch-returns-5 t c = search (needs, found-sum)
+
+pub +branch-spec : {M : Type 1} → statement M
++branch-spec = close μ-branch λ t. branch-lts.spec (
+  least-reads.Asked,
+  least-reads.Learnt,
+  intersection-reads.Asked,
+  intersection-reads.Learnt,
+  subset-reads.Asked,
+  subset-reads.Learnt,
+  lawful-reads.Asked,
+  lawful-reads.Learnt,
+  wide-reads.Asked,
+  wide-reads.Learnt,
+  with-reads.Asked,
+  with-reads.Learnt,
+  branch-below t,
+  branch.Post,
+)
+    (branch-at t)
+    branch.Post
+    (branch-least-requires t)
+    (branch-intersection-requires t)
+    (branch-returns t)
+    (branch-least-requires-2 t)
+    (branch-subset-requires t)
+    (branch-returns-2 t)
+    (branch-lawful-requires t)
+    (branch-returns-3 t)
+    (branch-returns-4 t)
+    (branch-element-copy-out-wide t)
+    (branch-wide-requires t)
+    (branch-add-next t)
+    (branch-with-requires t)
+    (branch-branch-requires t)
+    (branch-with-requires-2 t)
+    (branch-branch-requires-2 t)
+    (branch-add-result t)
+    (branch-returns-5 t)

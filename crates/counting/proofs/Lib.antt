@@ -1,0 +1,4 @@
+pub mod Rules
+pub mod Passes
+pub mod Constraints
+pub mod Search

@@ -1,0 +1,36 @@
+-- `counting::pass` meets its contract, one law for each way through it.
+use Prim.Native.Nat.{_-_}
+use native.Mathlib.Omega.{arith}
+use borrow.Author.Needs.{needs}
+use Rattle.counting.proofs.Passes.{Passing, passing-start, passing-turn, passing-end}
+use Rattle.counting.proofs.pass.Statement.{statement}
+use Rattle.counting.proofs.pass.Tie as tie
+
+abbrev Inv-loop : tie.InvT-loop
+Inv-loop heads pos neg gate k sure i o l x₀ j₀ x j = Passing heads pos neg gate k sure i o l j x
+
+abbrev μ-loop : tie.MeasureT-loop
+μ-loop heads pos neg gate k sure i o l x₀ j₀ x j = k - j
+
+loop-holds : tie.Need-loop-holds Inv-loop μ-loop
+loop-holds c = search (needs, passing-start)
+
+fire-at-requires : tie.Need-fire-at-requires Inv-loop μ-loop
+fire-at-requires c κs = (omega arith, c .before .before .pre .1 .low (c .before .loop .j) (omega arith))
+
+add-j : tie.Need-add-j Inv-loop μ-loop
+add-j c = search needs
+
+loop-less : tie.Need-loop-less Inv-loop μ-loop
+loop-less c = search needs
+
+loop-again : tie.Need-loop-again Inv-loop μ-loop
+loop-again c = search (needs, passing-turn)
+
+returns : tie.Need-returns Inv-loop μ-loop
+returns c = search (needs, passing-end)
+
+pub pass-spec : {M : Type 1} → statement M
+pass-spec =
+    tie.close
+    (tie.spec Inv-loop μ-loop loop-holds fire-at-requires add-j loop-less loop-again returns)

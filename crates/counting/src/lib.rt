@@ -1,0 +1,211 @@
+// Counting settled states: least models by passes over masks, and the search over decisions.
+use bits::intersection;
+use bits::subset;
+use bits::wide;
+use bits::with;
+ghost use mathlib.Core.Path.{_≡_};
+ghost use mathlib.Core.List.{List};
+ghost use mathlib.Core.Bool.{Bool, not};
+ghost use Prim.Native.Nat.{ℕ, _≤_, _<_};
+ghost use lib.ListN.{getD};
+ghost use Rattle.lists.specs.Lists.{all};
+ghost use Rattle.asp.specs.Program.{Body, State, holds};
+ghost use Rattle.asp.specs.LeastModel.{Closed, Inside, Least};
+ghost use Rattle.asp.specs.Decided.{CountRule};
+ghost use Rattle.bits.specs.Sets.{has};
+ghost use Rattle.counting.specs.Rules.{Applies, Fired, FiredAt, Low, PassedBy, LeastBy, BodyHolds, Lawful};
+ghost use Rattle.counting.specs.Search.{Counted};
+
+// Does a rule with these negative atoms and this gate apply: surely, or possibly?
+fn applies(sure: bool, i: u64, o: u64, neg: u64, gate: u64) -> bool
+    ensures { λ r. ⌜ Applies sure i o neg gate r ⌝ }
+{
+    if sure {
+        if subset(neg, o) {
+            return subset(gate, i);
+        }
+        return false;
+    }
+    if intersection(neg, i) == 0 {
+        return intersection(gate, o) == 0;
+    }
+    false
+}
+
+// The set with the head, where the rule applies and its positive atoms are in.
+fn fire(l: u64, head: usize, pos: u64, b: bool) -> u64
+    requires { ⌜ head < 64 ⌝ }
+    ensures { λ r. ⌜ Fired l head pos b r ⌝ }
+{
+    if b {
+        if subset(pos, l) {
+            return with(l, head);
+        }
+        return l;
+    }
+    l
+}
+
+// The same for the rule at index j.
+fn fire_at(
+    heads: &[u8; 128],
+    pos: &[u64; 128],
+    neg: &[u64; 128],
+    gate: &[u64; 128],
+    j: usize,
+    sure: bool,
+    i: u64,
+    o: u64,
+    l: u64,
+) -> u64
+    requires { ⌜ (j < 128) × (getD (now heads) j 0 < 64) ⌝ }
+    ensures { λ r. ⌜ FiredAt (now (heads .entry)) (now (pos .entry)) (now (neg .entry)) (now (gate .entry)) j sure i o l r ⌝ }
+{
+    let b = applies(sure, i, o, neg[j], gate[j]);
+    fire(l, wide(heads[j]), pos[j], b)
+}
+
+// One pass over the first k rules.
+fn pass(
+    heads: &[u8; 128],
+    pos: &[u64; 128],
+    neg: &[u64; 128],
+    gate: &[u64; 128],
+    k: usize,
+    sure: bool,
+    i: u64,
+    o: u64,
+    l: u64,
+) -> u64
+    requires { ⌜ (k ≤ 128) × Low (now heads) k ⌝ }
+    ensures { λ r. ⌜ PassedBy (now (heads .entry)) (now (pos .entry)) (now (neg .entry)) (now (gate .entry)) k sure i o l r ⌝ }
+{
+    let mut x = l;
+    let mut j = 0;
+    while j < k {
+        x = fire_at(heads, pos, neg, gate, j, sure, i, o, x);
+        j += 1;
+    }
+    x
+}
+
+// Passes until nothing is added: from a set inside the least model, the least model.
+fn least(
+    heads: &[u8; 128],
+    pos: &[u64; 128],
+    neg: &[u64; 128],
+    gate: &[u64; 128],
+    k: usize,
+    sure: bool,
+    i: u64,
+    o: u64,
+    start: u64,
+) -> u64
+    requires { ⌜ (k ≤ 128) × Low (now heads) k ⌝ }
+    ensures { λ r. ⌜ LeastBy (now (heads .entry)) (now (pos .entry)) (now (neg .entry)) (now (gate .entry)) k sure i o start r ⌝ }
+{
+    let mut x = start;
+    let mut next = pass(heads, pos, neg, gate, k, sure, i, o, x);
+    while next != x {
+        x = next;
+        next = pass(heads, pos, neg, gate, k, sure, i, o, x);
+    }
+    x
+}
+
+// Does a constraint's body hold in the set?
+fn body_holds(x: u64, pos: u64, neg: u64) -> bool
+    ensures { λ r. ⌜ BodyHolds x pos neg r ⌝ }
+{
+    if subset(pos, x) {
+        return intersection(neg, x) == 0;
+    }
+    false
+}
+
+// Does the set break none of the first k constraints?
+fn lawful(pos: &[u64; 128], neg: &[u64; 128], k: usize, x: u64) -> bool
+    requires { ⌜ k ≤ 128 ⌝ }
+    ensures { λ r. ⌜ Lawful (now (pos .entry)) (now (neg .entry)) k x r ⌝ }
+{
+    let mut j = 0;
+    while j < k {
+        if body_holds(x, pos[j], neg[j]) {
+            return false;
+        }
+        j += 1;
+    }
+    true
+}
+
+// The number of settled states that have i and nothing of o, where atoms[at..t] are still to be decided. A settled state that
+// agrees lies between two least models: of the rules that surely apply, and of those that possibly do.
+pub fn branch(
+    heads: &[u8; 128],
+    pos: &[u64; 128],
+    neg: &[u64; 128],
+    gate: &[u64; 128],
+    k: usize,
+    cpos: &[u64; 128],
+    cneg: &[u64; 128],
+    m: usize,
+    atoms: &[u8; 16],
+    t: usize,
+    at: usize,
+    i: u64,
+    o: u64,
+    start: u64,
+) -> u64
+    requires { ⌜ (k ≤ 128) × Low (now heads) k × (m ≤ 128) × (t ≤ 16) × Low (now atoms) t ⌝ }
+    ensures { λ r. ⌜ Counted (now (heads .entry)) (now (pos .entry)) (now (neg .entry)) (now (gate .entry)) k (now (cpos .entry)) (now (cneg .entry)) m (now (atoms .entry)) t at i o start r ⌝ }
+{
+    let l = least(heads, pos, neg, gate, k, true, i, o, start);
+    if intersection(l, o) != 0 {
+        return 0;
+    }
+    let u = least(heads, pos, neg, gate, k, false, i, o, l);
+    if !subset(i, u) {
+        return 0;
+    }
+    if t <= at {
+        if lawful(cpos, cneg, m, l) {
+            return 1;
+        }
+        return 0;
+    }
+    let c = wide(atoms[at]);
+    let next = at + 1;
+    let inside = branch(
+        heads,
+        pos,
+        neg,
+        gate,
+        k,
+        cpos,
+        cneg,
+        m,
+        atoms,
+        t,
+        next,
+        with(i, c),
+        o,
+        l,
+    );
+    let outside = branch(
+        heads,
+        pos,
+        neg,
+        gate,
+        k,
+        cpos,
+        cneg,
+        m,
+        atoms,
+        t,
+        next,
+        i,
+        with(o, c),
+        l,
+    );
+    inside + outside
+}

@@ -1,0 +1,3 @@
+pub mod Collecting
+pub mod Negating
+pub mod Deciding
