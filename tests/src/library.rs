@@ -223,6 +223,13 @@ fn count(sheet: &Input) -> Result<Answer, String> {
     }
 }
 
+/// The count alone, with nothing checked, for measurements; none if the sheet is refused.
+pub fn plain_count(sheet: &[u8]) -> Option<u64> {
+    let (mut count, mut verdict) = (0, 0);
+    let status = unsafe { rulesheet_count(sheet.as_ptr(), sheet.len(), &mut count, &mut verdict) };
+    (status == 0).then_some(count)
+}
+
 impl Library {
     fn run_program(&self, input: &[u8]) -> Result<Answer, String> {
         let failed = |error: std::io::Error| format!("{}: {error}", self.program.display());

@@ -95,6 +95,14 @@ fn edges(s: &[u8], n: usize, m: usize) -> Reach
     table
 }
 
+// The closed table, for an order of work: no promise hangs on it.
+pub fn ancestors(s: &[u8], n: usize, m: usize) -> Reach
+    requires { ⌜ Walk (now s) n m 5 × (n ≤ 64) ⌝ }
+{
+    let table = edges(s, n, m);
+    table.close(n)
+}
+
 // Does a lead to b and b to a?
 fn mutual(rows: &[u64; 64], a: usize, b: usize) -> bool
     requires { ⌜ (a < 64) × (b < 64) ⌝ }

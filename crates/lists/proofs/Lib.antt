@@ -2,3 +2,4 @@ pub mod Bools
 pub mod Members
 pub mod Nodup
 pub mod Sublists
+pub mod Exchange

@@ -1,3 +1,4 @@
 pub mod Collecting
 pub mod Negating
 pub mod Deciding
+pub mod Ordering
