@@ -35,6 +35,9 @@ uint32_t rulesheet_components(const uint8_t *sheet, size_t sheet_len, uint8_t *o
 /* Writes the default unfolding sequence, with its header. */
 uint32_t rulesheet_default(const uint8_t *sheet, size_t sheet_len, uint8_t *out, size_t out_len, uint64_t *written);
 
+/* Tests an unfolding sequence: 0 where every chain is found in it. */
+uint32_t rulesheet_test(const uint8_t *sheet, size_t sheet_len, const uint8_t *sequence, size_t sequence_len);
+
 /* Counts the settled states (answer sets). The verdict is 0 where there is none, 1 where there is one, 2 where there are more. */
 uint32_t rulesheet_count(const uint8_t *sheet, size_t sheet_len, uint64_t *count, uint64_t *verdict);
 

@@ -230,6 +230,11 @@ pub fn plain_count(sheet: &[u8]) -> Option<u64> {
     (status == 0).then_some(count)
 }
 
+/// The test of a sequence alone.
+pub fn plain_test(sheet: &[u8], sequence: &[u8]) -> bool {
+    unsafe { rulesheet_test(sheet.as_ptr(), sheet.len(), sequence.as_ptr(), sequence.len()) == 0 }
+}
+
 impl Library {
     fn run_program(&self, input: &[u8]) -> Result<Answer, String> {
         let failed = |error: std::io::Error| format!("{}: {error}", self.program.display());

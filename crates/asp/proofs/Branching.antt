@@ -204,9 +204,6 @@ module _ (n : ℕ) (rs : List CountRule) (low : (r : CountRule) → List·Memᴰ
     only : (X : State) → Fits X → agrees n i o X ≡ true → X ≡ L
     only X S g = least-same (consequences (chosen (surely i o) rs)) X L (subst (λ D. Least (consequences D) X) (same-rules X g) (S .least)) B
 
-    pub leaf-none : (agrees n i o L ≡ true → ⊥) → countBy n rs cs i o ≡ 0
-    leaf-none h = none-counted (λ X S g. h (subst (λ Y. agrees n i o Y ≡ true) (only X S g) g))
-
     pub leaf-unlawful : all (λ b. not (holds L b)) cs ≡ false → countBy n rs cs i o ≡ 0
     leaf-unlawful f = none-counted (λ X S g. true-false (subst (λ Y. all (λ b. not (holds Y b)) cs ≡ true) (only X S g) (S .lawful)) f)
 

@@ -6,7 +6,7 @@ use Prim.Native.Nat.{ℕ, zero, suc, _≤_, _<_}
 use native.Mathlib.Omega.{arith}
 use lib.ListN.{length}
 use Rattle.lists.specs.Lists.{all, filter, range}
-use Rattle.lists.proofs.Bools.{by-bool, true-false, is-true, is-false, bool-ext, or-cases, or-left, or-right, not-elim, not-intro}
+use Rattle.lists.proofs.Bools.{by-bool, true-false, is-true, is-false, or-cases, or-left, or-right, not-elim, not-intro}
 use Rattle.lists.proofs.Members.{all-at, all-fails, filter-out, range-in, range-out}
 use Rattle.lists.proofs.Nodup.{nodup-le, nodup-filter, filter-lt, nodup-range, length-range}
 use Rattle.asp.specs.Program.{State}
@@ -81,8 +81,3 @@ module _ (n : ℕ) (f : State → State) (F : Operator n f) where
 
   pub rounds-least : Least f (rounds f n)
   rounds-least = record { closed = ⊎-elim (λ c. c) (λ l. absurd (let le = size-le n (rounds f (suc n)) in omega arith)) (progress n); least = λ Y c. rounds-inside Y c n }
-
-  -- The least closed set is a fixed point.
-  pub rounds-fixed : (a : ℕ) → f (rounds f n) a ≡ rounds f n a
-  unfolding rounds
-  rounds-fixed a = bool-ext (rounds-least .closed a) (λ e. rounds-up n a e)

@@ -1,10 +1,10 @@
 -- The digits of unions, intersections and powers of 2.
-use mathlib.Core.Bool.{Bool, true, false, not, _&&_, _||_, or-comm, true≢false}
+use mathlib.Core.Bool.{Bool, true, false, not, _&&_, _||_, or-comm, or-false, true≢false}
 use mathlib.Core.Path.{_≡_, refl, sym, _∙_, ap, subst}
 use Prim.Native.Nat.{ℕ, zero, suc, _+_, _-_, _*_, _/_, _%_, _^_, _<_, _≤_, min, max}
 use native.Mathlib.Nat.{mod-lt, zero-lt-suc, div-lt-iff-lt-mul, pow-suc, one-mul, mul-mod-left, zero-div, div-one}
 use native.Mathlib.Omega.{arith}
-use borrow.Author.Tests.{eqb-true, eq-eqb, ne-eqb, ltb-true, ltb-false}
+use borrow.Author.Tests.{eqb-true, eq-eqb, ne-eqb, ltb-true, ltb-false, lt-ltb, le-ltb}
 use lib.Arith.{digits-mod, lt-one}
 use lib.Bits.{bitAnd, bitOr, bitXor, differ, and-le-l, and-le-r, or-add-and, and-shr, or-shr, xor-shr, and-step, or-step, xor-step}
 use lib.Count.{ones, ones-step}
@@ -12,9 +12,9 @@ use lib.Dec.{eqb, ltb, lit<}
 use lib.Pow.{pow-pos, pow-lt, shl-exact, shl-shr, shr-shr, pow-add}
 use lib.ListN.{length}
 use Rattle.lists.specs.Lists.{filter, range}
-use Rattle.lists.proofs.Bools.{by-bool, and-right}
+use Rattle.lists.proofs.Bools.{by-bool, bool-ext, and-left, and-right}
 use Rattle.lists.proofs.Members.{filter-cong}
-use Rattle.bits.specs.Sets.{has, Subset}
+use Rattle.bits.specs.Sets.{has, With, Without, Subset, Difference}
 
 -- What holds at 0 and 1 holds of two digits.
 digits-ind : (P : ℕ → ℕ → Type 0) → P 0 0 → P 0 1 → P 1 0 → P 1 1 → (p q : ℕ) → p < 2 → q < 2 → P p q
@@ -90,12 +90,23 @@ half-small x k l = div-lt-iff-lt-mul (zero-lt-suc 1) .1 (subst (λ n. x < n) (po
 digit-same : (p q : ℕ) → p < 2 → q < 2 → eqb p 1 ≡ eqb q 1 → p ≡ q
 digit-same = digits-ind (λ p q. eqb p 1 ≡ eqb q 1 → p ≡ q) (λ e. refl) (λ e. absurd (true≢false (sym e))) (λ e. absurd (true≢false e)) (λ e. refl)
 
+digit-le : (p q : ℕ) → p < 2 → q < 2 → (eqb p 1 ≡ true → eqb q 1 ≡ true) → p ≤ q
+digit-le = digits-ind (λ p q. (eqb p 1 ≡ true → eqb q 1 ≡ true) → p ≤ q) (λ e. omega arith) (λ e. omega arith) (λ e. absurd (true≢false (sym (e refl)))) (λ e. omega arith)
+
 -- Two numbers with the same digits are the same.
 pub digits-same : (k x y : ℕ) → x < 2 ^ k → y < 2 ^ k → ((a : ℕ) → has x a ≡ has y a) → x ≡ y
 digits-same zero x y l m h = omega arith
 digits-same (suc k) x y l m h =
     let half = digits-same k (x / 2) (y / 2) (half-small x k l) (half-small y k m) (λ a. sym (has-half x a) ∙ (h (suc a) ∙ has-half y a)) in
     let low = digit-same (x % 2) (y % 2) (digit x) (digit y) (sym (has-lowest x) ∙ (h 0 ∙ has-lowest y)) in
+    omega arith
+
+-- A smaller set is a smaller number.
+pub inside-le : (k x y : ℕ) → x < 2 ^ k → y < 2 ^ k → ((a : ℕ) → has x a ≡ true → has y a ≡ true) → x ≤ y
+inside-le zero x y l m h = omega arith
+inside-le (suc k) x y l m h =
+    let half = inside-le k (x / 2) (y / 2) (half-small x k l) (half-small y k m) (λ a t. sym (has-half y a) ∙ h (suc a) (has-half x a ∙ t)) in
+    let low = digit-le (x % 2) (y % 2) (digit x) (digit y) (λ t. sym (has-lowest y) ∙ h 0 (has-lowest x ∙ t)) in
     omega arith
 
 filter-shift : (p : ℕ → Bool) (a k : ℕ) → length (filter p (range (suc a) k)) ≡ length (filter (λ i. p (suc i)) (range a k))
@@ -162,3 +173,23 @@ subset-test x y l =
     both : (p q : Bool) → (p ≡ true → q ≡ true) → (p && q) ≡ p
     both true q f = f refl
     both false q f = refl
+
+pub without-one : (x a one r : ℕ) → x < 2 ^ 64 → r < 2 ^ 64 → With 0 a one → Difference x one r → Without x a r
+without-one x a one r l m W D =
+    record {
+      falls = inside-le 64 r x m l (λ b t. and-left (has x b) (not (has one b)) (sym (D .members b) ∙ t));
+      members = λ b. D .members b ∙ ap (λ (p : Bool). has x b && not p) (W .members b ∙ (ap (λ (p : Bool). eqb b a || p) (zero-has b) ∙ or-false (eqb b a)));
+    }
+
+-- The numbers below k.
+pub full-has : (k a : ℕ) → has (2 ^ k - 1) a ≡ ltb a k
+full-has zero a = zero-has a ∙ sym (le-ltb a 0 (omega arith))
+full-has (suc k) zero =
+    let p = pow-pos k in
+    let e = pow-suc 2 k in
+    has-lowest (2 ^ suc k - 1) ∙ (eq-eqb ((2 ^ suc k - 1) % 2) 1 (omega arith) ∙ sym (lt-ltb 0 (suc k) (omega arith)))
+full-has (suc k) (suc a) =
+    let p = pow-pos k in
+    let e = pow-suc 2 k in
+    let half : (2 ^ suc k - 1) / 2 ≡ 2 ^ k - 1 = omega arith in
+    has-half (2 ^ suc k - 1) a ∙ (ap (λ n. has n a) half ∙ (full-has k a ∙ bool-ext (λ t. lt-ltb (suc a) (suc k) (let l = ltb-true a k t in omega arith)) (λ t. lt-ltb a k (let l = ltb-true (suc a) (suc k) t in omega arith))))

@@ -16,6 +16,11 @@ pub record With (x a r : ℕ) : Type 0 where
   pub grows : x ≤ r
   pub members : (b : ℕ) → has r b ≡ (eqb b a || has x b)
 
+-- r is the set x without a.
+pub record Without (x a r : ℕ) : Type 0 where
+  pub falls : r ≤ x
+  pub members : (b : ℕ) → has r b ≡ (has x b && not (eqb b a))
+
 -- r is the set of the numbers of the list.
 pub record Gathered (l : List ℕ) (r : ℕ) : Type 0 where
   pub members : (b : ℕ) → has r b ≡ member b l

@@ -1,9 +1,11 @@
 // Sets of atoms below 64 in a u64: atom a is in the set where digit a of the number is 1.
 ghost use mathlib.Core.Path.{_≡_};
 ghost use mathlib.Core.Bool.{true};
-ghost use Prim.Native.Nat.{_<_};
-ghost use Rattle.bits.specs.Sets.{has, With, ByteAt, Gathered, Subset, Both, Either, Difference, Size};
-ghost use Rattle.lists.specs.Lists.{below};
+ghost use Prim.Native.Nat.{_+_, _≤_, _<_};
+ghost use Rattle.bits.specs.Sets.{has, With, Without, ByteAt, Gathered, Subset, Both, Either, Difference, Size};
+ghost use Rattle.bits.specs.Listed.{Listing};
+ghost use lib.ListN.{length};
+ghost use Rattle.lists.specs.Lists.{below, filter, range};
 
 // Is a in the set?
 pub fn has(x: u64, a: usize) -> bool
@@ -83,4 +85,51 @@ pub fn union(x: u64, y: u64) -> u64
     ensures { λ r. ⌜ Either x y r ⌝ }
 {
     x | y
+}
+
+// The set without a.
+pub fn without(x: u64, a: usize) -> u64
+    requires { ⌜ a < 64 ⌝ }
+    ensures { λ r. ⌜ Without x a r ⌝ }
+{
+    difference(x, with(0, a))
+}
+
+// At most 16 atoms, listed.
+pub struct Atoms {
+    pub atoms: [u8; 16],
+    pub t: usize,
+}
+
+impl Atoms {
+    // With a, where it is in the set.
+    fn add(self, x: u64, a: usize) -> Atoms
+        requires { ⌜ (a < 64) × Listing x self a ⌝ }
+        ensures { λ r. ⌜ Listing x r (a + 1) ⌝ }
+    {
+        if has(x, a) {
+            let t = self.t;
+            let mut atoms = self.atoms;
+            atoms[t] = (a % 256) as u8;
+            return Atoms { atoms, t: t + 1 };
+        }
+        self
+    }
+}
+
+// The atoms of a set of at most 16.
+pub fn listed(x: u64) -> Atoms
+    requires { ⌜ length (filter (has x) (range 0 64)) ≤ 16 ⌝ }
+    ensures { λ r. ⌜ Listing x r 64 ⌝ }
+{
+    let mut list = Atoms {
+        atoms: [0; 16],
+        t: 0,
+    };
+    let mut a = 0;
+    while a < 64 {
+        list = list.add(x, a);
+        a += 1;
+    }
+    list
 }

@@ -27,7 +27,7 @@ use Rattle.components.specs.declared.Analysis.{Analysis}
 use Rattle.components.proofs.Warshall.{into, mutual-reach}
 
 -- The links of the records are the edges of their program.
-links-edges : (n : ℕ) (rs : List Record) (a b : ℕ) → links rs a b ≡ into (programOf n rs) a b
+pub links-edges : (n : ℕ) (rs : List Record) (a b : ℕ) → links rs a b ≡ into (programOf n rs) a b
 unfolding edge programOf rulesOf
 links-edges n rs a b =
     sym (any-map (λ (r : Rule). eqb (r .head) a && member b (r .body .pos)) (λ (r : Record). record { head = r .head; body = r .body }) (filter (λ r. eqb (r .kind) 0) rs)

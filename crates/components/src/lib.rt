@@ -79,7 +79,7 @@ impl Reach {
 }
 
 // The edges of m records.
-fn edges(s: &[u8], n: usize, m: usize) -> Reach
+pub fn edges(s: &[u8], n: usize, m: usize) -> Reach
     requires { ⌜ Walk (now s) n m 5 × (n ≤ 64) ⌝ }
     ensures { λ r. ⌜ Holds n (links (recordsFrom m (now (s .entry)) 5)) (r .rows) ⌝ }
 {
@@ -207,7 +207,7 @@ pub struct Analysis {
     pub names: [u8; 64],
 }
 
-fn refused(q: u32) -> Analysis
+pub fn refused(q: u32) -> Analysis
     ensures { λ r. ⌜ r .refusal ≡ q ⌝ }
 {
     Analysis {

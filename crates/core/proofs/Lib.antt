@@ -2,3 +2,4 @@ pub mod Counting
 pub mod Default
 pub mod Reading
 pub mod Writing
+pub mod Testing

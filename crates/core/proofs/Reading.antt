@@ -112,9 +112,6 @@ module _ (L : Limits) (i : ℕ) (s : List ℕ) (r : Analysis) (A : Analysed L s 
           };
         }
 
-pub placed-inside : (s : List ℕ) (n i at k : ℕ) → Placed s n i at → k < 4 → at + k < length s
-placed-inside s n i at k K l = let three = K .known .whole .three in let fits = K .known .whole .fits in omega arith
-
 module _ (L : Limits) (i : ℕ) (s : List ℕ) (b : BodyPlace) (F : BodyFound L i s b) where
   pub body-none : (values : List ℕ) → (b .refusal ≡ 0 → ⊥) → refused (b .refusal) ≡ outcome (bodyQuestions L i s) values
   body-none values ne = outcome-refused (bodyQuestions L i s) (b .refusal) values (F .says) ne

@@ -2,3 +2,4 @@ pub mod Outcome
 pub mod Outputs
 pub mod Operations
 pub mod Bodies
+pub mod Examined

@@ -1,11 +1,13 @@
 -- The questions of each operation ("The questions" of document 01), in their order.
 use mathlib.Core.List.{List, [], _∷_}
+use mathlib.Core.Bool.{true}
+use mathlib.Core.Logic.{_↔_}
 use mathlib.Core.Path.{_≡_}
 use Prim.Native.Nat.{ℕ}
 use lib.Dec.{leb, ltb}
 use lib.ListN.{length}
 use Rattle.asp.specs.Count.{count, verdict}
-use Rattle.unfolding.specs.Chain.{passes}
+use Rattle.unfolding.specs.Chain.{Passes, passes}
 use Rattle.sheet.specs.Questions.{ask, _then_}
 use Rattle.sheet.specs.Format.{atomsByte, recordsByte}
 use Rattle.sheet.specs.Sequence.{sequenceFits, entries}
@@ -46,3 +48,7 @@ countValues s = count (program s) ∷ code (verdict (count (program s))) ∷ []
 -- all atoms in components of the largest size need.
 abbrev pub DefaultAccepted : Limits → Type 0
 DefaultAccepted L = (s : List ℕ) → sheetQuestions L s ≡ 0 → testQuestions L s (defaultBytes s) ≡ 0
+
+-- Where a sheet and a sequence come as far as the chain question, the sequence passes just when every chain is found in it.
+abbrev pub TestIsChains : Limits → Type 0
+TestIsChains L = (s q : List ℕ) → sheetQuestions L s ≡ 0 → sequenceFits L (atomsByte s) q ≡ true → (testQuestions L s q ≡ 0) ↔ Passes (program s) (entries q)

@@ -12,6 +12,8 @@ use Rattle.core.specs.declared.BodyAnswer.{BodyAnswer}
 use Rattle.core.specs.declared.BodyAnswer.the-variants as body
 use Rattle.core.specs.declared.WriteAnswer.{WriteAnswer}
 use Rattle.core.specs.declared.WriteAnswer.the-variants as write
+use Rattle.core.specs.declared.TestAnswer.{TestAnswer}
+use Rattle.core.specs.declared.TestAnswer.the-variants as test
 use Rattle.core.specs.declared.Verdict as declared
 use Rattle.core.specs.declared.Verdict.the-variants as verdict
 use Rattle.core.specs.declared.CountAnswer.{CountAnswer}
@@ -37,6 +39,10 @@ bodyOf (body.Positives p) = answered (p ∷ [])
 abbrev pub writeOf : WriteAnswer → Outcome
 writeOf (write.Refused q) = refused q
 writeOf (write.Length l) = answered (l ∷ [])
+
+abbrev pub testOf : TestAnswer → Outcome
+testOf (test.Refused q) = refused q
+testOf test.Passed = answered []
 
 -- A verdict as a number.
 abbrev pub code : Verdict → ℕ

@@ -1,11 +1,15 @@
 // The operations, with their limits as parameters.
 use bits::byte_at;
+use chains::passes;
+use components::Analysis;
 use components::analyse;
+use components::refused;
 use outputs::put_blocks;
 use outputs::put_names;
 use sheet::Limits;
 use sheet::next_record;
 use sheet::record_end;
+use sheet::sequence_fits;
 use writer::put;
 ghost use mathlib.Core.Path.{_≡_};
 ghost use mathlib.Core.List.{_∷_, []};
@@ -16,12 +20,13 @@ ghost use lib.ListN.{length};
 ghost use Rattle.sheet.specs.Format.{atomsByte, recordsByte, positives};
 ghost use Rattle.asp.specs.Count.{count, verdict};
 ghost use Rattle.sheet.specs.Sheet.{Walk, program};
-ghost use Rattle.core.specs.Outcome.{readOf, bodyOf, verdictOf, countOf, outcome, Writes};
+ghost use Rattle.core.specs.Outcome.{readOf, bodyOf, testOf, verdictOf, countOf, outcome, Writes};
 ghost use Rattle.core.specs.Outputs.{componentBytes, defaultBytes, sequenceHeader, place, stretch};
 ghost use Rattle.outputs.specs.Names.{blocksOf};
 ghost use Rattle.writer.specs.Wrote.{Wrote};
 ghost use Rattle.core.specs.Bodies.{Placed, BodyFound};
-ghost use Rattle.core.specs.Operations.{readQuestions, bodyQuestions, componentsQuestions, defaultQuestions, countQuestions, countValues};
+ghost use Rattle.core.specs.Operations.{readQuestions, bodyQuestions, componentsQuestions, defaultQuestions, testQuestions, countQuestions, countValues};
+ghost use Rattle.core.specs.Examined.{Examined};
 
 // Reading: the refusal, or the numbers of atoms and records.
 pub enum ReadAnswer {
@@ -39,6 +44,12 @@ pub enum BodyAnswer {
 pub enum WriteAnswer {
     Refused(u32),
     Length(usize),
+}
+
+// Testing a sequence: the refusal, or only that it passed.
+pub enum TestAnswer {
+    Refused(u32),
+    Passed,
 }
 
 // Whether there is no settled state, one, or more.
@@ -215,6 +226,40 @@ pub fn default_sequence(limits: Limits, s: &[u8], out: &mut [u8]) -> WriteAnswer
     let at = put_header(out, t);
     let length = put_blocks(out, at, &names, n);
     WriteAnswer::Length(length)
+}
+
+// Questions 1 to 9 of a sheet and a sequence.
+fn examine(limits: Limits, s: &[u8], q: &[u8]) -> Analysis
+    requires { ⌜ (limits .atoms ≤ 64) × (limits .component ≤ 10) ⌝ }
+    ensures { λ r. ⌜ Examined limits (now (s .entry)) (now (q .entry)) r ⌝ }
+{
+    let a = analyse(limits, s);
+    if a.refusal != 0 {
+        return a;
+    }
+    let n = a.atoms;
+    let m = a.records;
+    if !sequence_fits(limits, n, q) {
+        return refused(8);
+    }
+    let names = a.names;
+    if !passes(s, n, m, &names, q) {
+        return refused(9);
+    }
+    a
+}
+
+// Testing a sequence: every chain must be found in it.
+pub fn test(limits: Limits, s: &[u8], q: &[u8]) -> TestAnswer
+    requires { ⌜ (limits .atoms ≤ 64) × (limits .component ≤ 10) ⌝ }
+    ensures { λ r. ⌜ testOf r ≡ outcome (testQuestions limits (now (s .entry)) (now (q .entry))) [] ⌝ }
+{
+    let a = examine(limits, s, q);
+    let refusal = a.refusal;
+    if refusal != 0 {
+        return TestAnswer::Refused(refusal);
+    }
+    TestAnswer::Passed
 }
 
 fn verdict_on(states: u64) -> Verdict

@@ -3,7 +3,7 @@ use mathlib.Core.Bool.{Bool, true}
 use mathlib.Core.List.{List}
 use mathlib.Core.Logic.{⊎-elim}
 use mathlib.Core.Path.{_≡_, refl, sym, _∙_, subst}
-use Prim.Native.Nat.{ℕ, _+_, _≤_, _<_}
+use Prim.Native.Nat.{ℕ, _+_, _-_, _*_, _^_, _≤_, _<_}
 use native.Mathlib.Nat.{le-antisymm}
 use native.Mathlib.Omega.{arith}
 use borrow.Author.Tests.{eqb-true, eqb-false}
@@ -34,15 +34,19 @@ module _ (heads pos neg gate : List ℕ) where
     pub passing-start : (l : ℕ) → Passing l 0 l
     passing-start l = record { grows = omega arith; below = λ rs H Y c s. s; still = λ e j h. absurd (omega arith) }
 
-    pub passing-turn : (l j x y : ℕ) → Passing l j x → j < k → FiredAt heads pos neg gate j sure i o x y → Passing l (j + 1) y
-    passing-turn l j x y P h F =
+    -- The pass goes on behind j where nothing was added, and anywhere else where something was.
+    pub passing-turn : (l j x y j₁ : ℕ) → Passing l j x → j < k → FiredAt heads pos neg gate j sure i o x y → (x ≡ y → j₁ ≡ j + 1) → Passing l j₁ y
+    passing-turn l j x y j₁ P h F on =
         let g = P .grows in
         let up = F .fired .grows in
         record {
           grows = omega arith;
           below = below;
-          still = λ e j′ lt r M t s. by-bool (eqb j′ j) (λ q. here e j′ (eqb-true j′ j q) r M t s)
-              (λ q. P .still (le-antisymm (omega arith) g) j′ (let ne = eqb-false j′ j q in omega arith) r M t s);
+          still = λ e j′ lt r M t s.
+              let x-is : x ≡ l = le-antisymm (omega arith) g in
+              let next = on (x-is ∙ sym e) in
+              by-bool (eqb j′ j) (λ q. here e j′ (eqb-true j′ j q) r M t s)
+              (λ q. P .still x-is j′ (let ne = eqb-false j′ j q in omega arith) r M t s);
         }
       where
         below : (rs : List CountRule) → Held rs heads pos neg gate k → (Y : State) → Closed (operator sure i o rs) Y → Inside (has l) Y → Inside (has y) Y
@@ -82,6 +86,13 @@ module _ (heads pos neg gate : List ℕ) where
                 (P .still e (m .0) (omega arith) (F .rule) (m .2) (F .passes) (all-masked (getD pos (m .0) 0) (F .rule .rule .body .pos) (m .2 .positives) (has l) (F .positives)));
           };
         }
+
+    -- Either the set grows or the pass goes on behind j.
+    pub pass-falls : (j x y j₁ : ℕ) → k ≤ 128 → j < k → y < 2 ^ 64 → FiredAt heads pos neg gate j sure i o x y → (x ≡ y → j₁ ≡ j + 1)
+        → 129 * (2 ^ 64 - y) + (k - j₁) < 129 * (2 ^ 64 - x) + (k - j)
+    pass-falls j x y j₁ few h small F on =
+        let up = F .fired .grows in
+        by-bool (eqb x y) (λ q. let e = eqb-true x y q in let next = on e in omega arith) (λ q. let ne = eqb-false x y q in omega arith)
 
     -- Passes so far.
     pub record Running (start x next : ℕ) : Type 0 where

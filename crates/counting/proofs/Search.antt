@@ -14,15 +14,16 @@ use Rattle.lists.specs.Lists.{all, range}
 use Rattle.lists.proofs.Bools.{by-bool, true-false, is-true, is-false, bool-ext, and-intro, and-left, and-right, or-cases, or-left, or-right, not-intro, not-elim}
 use Rattle.lists.proofs.Members.{all-at, all-intro, all-fails, range-in, range-out, range-left, range-over}
 use Rattle.lists.proofs.Nodup.{nodup-head}
-use Rattle.asp.specs.Program.{Body, State, outside}
+use Rattle.asp.specs.Program.{Body, State, outside, holds}
 use Rattle.asp.specs.LeastModel.{Closed, Inside, Least}
 use Rattle.asp.specs.Count.{with}
 use Rattle.asp.specs.Decided.{CountRule, surely, possibly, agrees, countBy}
-use Rattle.asp.proofs.Branching.{fired-out, chosen-more, least-same, agree-make, clash-lower, clash-upper, leaf-one, leaf-unlawful, count-split}
+use Rattle.asp.proofs.Branching.{fired-out, chosen-more, agree-make, clash-lower, clash-upper, leaf-one, leaf-unlawful, count-split}
 use Rattle.bits.specs.Sets.{has, With, Subset, Both}
 use Rattle.bits.proofs.Digits.{zero-has}
-use Rattle.counting.specs.Rules.{Low, operator, LeastBy, Lawful}
-use Rattle.counting.specs.Search.{undecided, asks, Task, Counted}
+use Rattle.counting.specs.Rules.{operator, LeastBy, Lawful}
+use Rattle.bits.specs.Listed.{Low}
+use Rattle.counting.specs.Search.{undecided, asks, Task, Leaf, Lacking, Counted}
 use Rattle.counting.proofs.Rules.{empty-both}
 
 -- More decided, more rules surely apply.
@@ -64,57 +65,69 @@ module _ (n : ℕ) (rs : List CountRule) (cs : List Body) (heads pos neg gate : 
         clash-lower n rs (T .heads-low) (T .negs-low) cs (has i) (has o) (has l) lower (w .0) (omega (arith, h .high))
         (and-left (has l (w .0)) (has o (w .0)) both) (and-right (has l (w .0)) (has o (w .0)) both))
 
-    module _ (u : ℕ) (C : LeastBy heads pos neg gate k false i o l u) where
-      upper : Least (operator false i o rs) (has u)
-      upper = C .least rs (T .held) (λ Y c. lower .least Y (λ a e. c a (chosen-more (surely (has i) (has o)) (possibly (has i) (has o)) rs (λ r _. surely-possibly i o (T .apart) r) Y a e)))
+    -- An upper bound lacks what is in.
+    lacks : (u : ℕ) → Least (operator false i o rs) (has u) → Subset i u false → countBy n rs cs (has i) (has o) ≡ 0
+    lacks u upper S =
+        by-bool (all (λ a. not (has i a) || has u a) (range 0 n))
+        (λ t. absurd (true-false (S .all-inside (λ a x. let h = T .ins-low a x in
+        ⊎-elim (λ q. absurd (true-false x (not-elim q))) (λ q. q) (or-cases (not (has i a)) (has u a) (all-at (λ a. not (has i a) || has u a) (range 0 n) t a (range-in 0 n a (omega arith) (omega arith)))))) refl))
+        (λ g. let w = all-fails (λ a. not (has i a) || has u a) (range 0 n) g in
+        let h = range-out 0 n (w .0) (w .1) in
+        clash-upper n rs (T .heads-low) (T .negs-low) cs (has i) (has o) (has u) upper (w .0) (omega (arith, h .high))
+        (is-true (λ q. true-false (or-left (has u (w .0)) (not-intro q)) (w .2))) (is-false (λ q. true-false (or-right (not (has i (w .0))) q) (w .2))))
 
-      -- The upper bound lacks what is in.
-      lacks : (b : Bool) → Subset i u b → b ≡ false → countBy n rs cs (has i) (has o) ≡ 0
-      lacks b S f =
-          by-bool (all (λ a. not (has i a) || has u a) (range 0 n))
-          (λ t. absurd (true-false (S .all-inside (λ a x. let h = T .ins-low a x in
-          ⊎-elim (λ q. absurd (true-false x (not-elim q))) (λ q. q) (or-cases (not (has i a)) (has u a) (all-at (λ a. not (has i a) || has u a) (range 0 n) t a (range-in 0 n a (omega arith) (omega arith)))))) f))
-          (λ g. let w = all-fails (λ a. not (has i a) || has u a) (range 0 n) g in
-          let h = range-out 0 n (w .0) (w .1) in
-          clash-upper n rs (T .heads-low) (T .negs-low) cs (has i) (has o) (has u) upper (w .0) (omega (arith, h .high))
-          (is-true (λ q. true-false (or-left (has u (w .0)) (not-intro q)) (w .2))) (is-false (λ q. true-false (or-right (not (has i (w .0))) q) (w .2))))
+    upper : (u : ℕ) → LeastBy heads pos neg gate k false i o l u → Least (operator false i o rs) (has u)
+    upper u C = C .least rs (T .held) (λ Y c. lower .least Y (λ a e. c a (chosen-more (surely (has i) (has o)) (possibly (has i) (has o)) rs (λ r _. surely-possibly i o (T .apart) r) Y a e)))
 
-      -- Everything is decided.
-      module _ (none : rest ≡ []) (r : ℕ) (small : r < 2 ^ 64) (W : Both l o r) (zero-both : r ≡ 0) (b : Bool) (S : Subset i u b) (inside : b ≡ true) where
-        settle : (q : CountRule) → List·Memᴰ q rs → (a : ℕ) → asks q a → (has i a ≡ true) ⊎ (has o a ≡ true)
-        settle q s a x = ⊎-elim inl (λ y. ⊎-elim inr (λ z. absurd (List·Memᴰ·not-nil (subst (List·Memᴰ a) none z))) y) (T .known q s a x)
+    -- Everything is decided: the bounds are one set.
+    module _ (none : rest ≡ []) where
+      settle : (q : CountRule) → List·Memᴰ q rs → (a : ℕ) → asks q a → (has i a ≡ true) ⊎ (has o a ≡ true)
+      settle q s a x = ⊎-elim inl (λ y. ⊎-elim inr (λ z. absurd (List·Memᴰ·not-nil (subst (List·Memᴰ a) none z))) y) (T .known q s a x)
 
-        decided : (q : CountRule) → List·Memᴰ q rs → possibly (has i) (has o) q ≡ true → surely (has i) (has o) q ≡ true
-        unfolding outside
-        decided q s e =
-            let ns = q .rule .body .neg in
-            let h = q .rule .head in
-            let p = and-left (all (λ a. not (has i a)) ns) (not (q .free) || not (has o h)) e in
-            let g = and-right (all (λ a. not (has i a)) ns) (not (q .free) || not (has o h)) e in
-            and-intro (all-intro (has o) ns (λ a x. ⊎-elim (λ y. absurd (true-false y (not-elim (all-at (λ a. not (has i a)) ns p a x)))) (λ y. y) (settle q s a (inl x))))
-            (by-bool (q .free) (λ f. ⊎-elim (λ y. or-right (not (q .free)) y)
-            (λ y. absurd (⊎-elim (λ v. true-false f (not-elim v)) (λ v. true-false y (not-elim v)) (or-cases (not (q .free)) (not (has o h)) g))) (settle q s h (inr (f, refl))))
-            (λ f. or-left (has i h) (not-intro f)))
+      decided : (q : CountRule) → List·Memᴰ q rs → possibly (has i) (has o) q ≡ true → surely (has i) (has o) q ≡ true
+      unfolding outside
+      decided q s e =
+          let ns = q .rule .body .neg in
+          let h = q .rule .head in
+          let p = and-left (all (λ a. not (has i a)) ns) (not (q .free) || not (has o h)) e in
+          let g = and-right (all (λ a. not (has i a)) ns) (not (q .free) || not (has o h)) e in
+          and-intro (all-intro (has o) ns (λ a x. ⊎-elim (λ y. absurd (true-false y (not-elim (all-at (λ a. not (has i a)) ns p a x)))) (λ y. y) (settle q s a (inl x))))
+          (by-bool (q .free) (λ f. ⊎-elim (λ y. or-right (not (q .free)) y)
+          (λ y. absurd (⊎-elim (λ v. true-false f (not-elim v)) (λ v. true-false y (not-elim v)) (or-cases (not (q .free)) (not (has o h)) g))) (settle q s h (inr (f, refl))))
+          (λ f. or-left (has i h) (not-intro f)))
 
-        same : has u ≡ has l
-        same =
-            least-same (operator true i o rs) (has u) (has l)
-            (record {
-              closed = λ a e. upper .closed a (chosen-more (surely (has i) (has o)) (possibly (has i) (has o)) rs (λ q _. surely-possibly i o (T .apart) q) (has u) a e);
-              least = λ Y c. upper .least Y (λ a e. c a (chosen-more (possibly (has i) (has o)) (surely (has i) (has o)) rs decided Y a e));
-            })
-            lower
+      both : Least (operator false i o rs) (has l)
+      both =
+          record {
+            closed = λ a e. lower .closed a (chosen-more (possibly (has i) (has o)) (surely (has i) (has o)) rs decided (has l) a e);
+            least = λ Y c. lower .least Y (λ a e. c a (chosen-more (surely (has i) (has o)) (possibly (has i) (has o)) rs (λ q _. surely-possibly i o (T .apart) q) Y a e));
+          }
 
-        agreed : agrees n (has i) (has o) (has l) ≡ true
-        agreed =
-            agree-make n (has i) (has o) (has l) (λ a _ x. ap (λ (Y : State). Y a) (sym same) ∙ S .inside inside a x)
+      module _ (r : ℕ) (small : r < 2 ^ 64) (W : Both l o r) (zero-both : r ≡ 0) where
+        agreed : Subset i l true → agrees n (has i) (has o) (has l) ≡ true
+        agreed S =
+            agree-make n (has i) (has o) (has l) (λ a _ x. S .inside refl a x)
             (λ a _ y. is-false (λ x. true-false (W .members a ∙ and-intro x y) (ap (λ z. has z a) zero-both ∙ zero-has a)))
 
-        leaf : (f : Bool) → Lawful cpos cneg m l f → (v : ℕ) → ((f ≡ true) × (v ≡ 1)) ⊎ ((f ≡ false) × (v ≡ 0)) → v ≡ countBy n rs cs (has i) (has o)
-        leaf f K v =
-            let law = K .is cs (T .bodies) in
-            ⊎-elim (λ p. p .1 ∙ sym (leaf-one n rs (T .heads-low) (T .negs-low) cs (has i) (has o) decided (has l) lower within agreed (sym law ∙ p .0)))
-            (λ p. p .1 ∙ sym (leaf-unlawful n rs (T .heads-low) (T .negs-low) cs (has i) (has o) decided (has l) lower within (sym law ∙ p .0)))
+        -- The candidate is settled or not.
+        candidate : (v : ℕ) → Leaf cpos cneg m i l v → v ≡ countBy n rs cs (has i) (has o)
+        candidate v K = by-bool (K .holds-in) (λ t. by-bool (K .obeys) (fits t) (breaks t)) out
+          where
+            law : K .holds-in ≡ true → K .obeys ≡ all (λ b. not (holds (has l) b)) cs
+            law t = K .tested t .is cs (T .bodies)
+
+            fits : K .holds-in ≡ true → K .obeys ≡ true → v ≡ countBy n rs cs (has i) (has o)
+            fits t d =
+                (K .is ∙ rw (t, d) refl)
+                ∙ sym (leaf-one n rs (T .heads-low) (T .negs-low) cs (has i) (has o) decided (has l) lower within (agreed (subst (Subset i l) t (K .asked))) (sym (law t) ∙ d))
+
+            breaks : K .holds-in ≡ true → K .obeys ≡ false → v ≡ countBy n rs cs (has i) (has o)
+            breaks t d =
+                (K .is ∙ rw (t, d) refl)
+                ∙ sym (leaf-unlawful n rs (T .heads-low) (T .negs-low) cs (has i) (has o) decided (has l) lower within (sym (law t) ∙ d))
+
+            out : K .holds-in ≡ false → v ≡ countBy n rs cs (has i) (has o)
+            out f = (K .is ∙ rw f refl) ∙ sym (lacks l both (subst (Subset i l) f (K .asked)))
 
 -- One decision more.
 eqb-flip : (a b : ℕ) → eqb a b ≡ eqb b a
@@ -183,26 +196,50 @@ module _ (n : ℕ) (rs : List CountRule) (cs : List Body) (heads pos neg gate : 
       ap (λ z. z + w) (e ∙ ap (λ X. countBy n rs cs X (has o)) (with-state i c i′ I))
       ∙ (ap (λ z. countBy n rs cs (with c (has i)) (has o) + z) (f ∙ ap (countBy n rs cs (has i)) (with-state o c o′ O)) ∙ sym (count-split n rs cs (has i) (has o) c (own .0)))
 
+-- The leaf's code.
+module _ (cpos cneg : List ℕ) (m i l : ℕ) where
+  pub leaf-lacks : (b : Bool) → Subset i l b → b ≡ false → Leaf cpos cneg m i l 0
+  leaf-lacks b S f = record { holds-in = b; asked = S; obeys = true; tested = λ t. absurd (true-false t f); is = rw f refl }
+
+  pub leaf-fits : (b d : Bool) → Subset i l b → b ≡ true → Lawful cpos cneg m l d → d ≡ true → Leaf cpos cneg m i l 1
+  leaf-fits b d S t K e = record { holds-in = b; asked = S; obeys = d; tested = λ _. K; is = rw (t, e) refl }
+
+  pub leaf-breaks : (b d : Bool) → Subset i l b → b ≡ true → Lawful cpos cneg m l d → d ≡ false → Leaf cpos cneg m i l 0
+  leaf-breaks b d S t K e = record { holds-in = b; asked = S; obeys = d; tested = λ _. K; is = rw (t, e) refl }
+
+  leaf-small : (v : ℕ) → Leaf cpos cneg m i l v → v ≤ 1
+  leaf-small v K =
+      by-bool (K .holds-in)
+      (λ t. by-bool (K .obeys) (λ d. let e : v ≡ 1 = K .is ∙ rw (t, d) refl in omega arith) (λ d. let e : v ≡ 0 = K .is ∙ rw (t, d) refl in omega arith))
+      (λ f. let e : v ≡ 0 = K .is ∙ rw f refl in omega arith)
+
+-- The upper bound's code.
+module _ (heads pos neg gate : List ℕ) (k i o l : ℕ) where
+  pub lacking-asked : (u : ℕ) (b : Bool) → LeastBy heads pos neg gate k false i o l u → Subset i u b → Lacking heads pos neg gate k i o l (not b)
+  lacking-asked u b C S = record { upper = λ t. (u, C, subst (Subset i u) (not-elim t) S) }
+
+  pub lacking-not : Lacking heads pos neg gate k i o l false
+  lacking-not = record { upper = λ t. absurd (true-false t refl) }
+
 -- The ways out of the search.
 module _ (heads pos neg gate : List ℕ) (k : ℕ) (cpos cneg : List ℕ) (m : ℕ) (atoms : List ℕ) (t at i o start l : ℕ) (B : LeastBy heads pos neg gate k true i o start l) where
   pub found-met : (r : ℕ) → r < 2 ^ 64 → Both l o r → (r ≡ 0 → ⊥) → Counted heads pos neg gate k cpos cneg m atoms t at i o start 0
   found-met r s W ne = record { is = λ n rs cs T. sym (met n rs cs heads pos neg gate k cpos cneg m _ i o start T l B r s W ne); small = omega arith }
 
-  module _ (u : ℕ) (C : LeastBy heads pos neg gate k false i o l u) where
-    pub found-lacks : (b : Bool) → Subset i u b → b ≡ false → Counted heads pos neg gate k cpos cneg m atoms t at i o start 0
-    found-lacks b S f = record { is = λ n rs cs T. sym (lacks n rs cs heads pos neg gate k cpos cneg m _ i o start T l B u C b S f); small = omega arith }
+  pub found-lacks : (b : Bool) → Lacking heads pos neg gate k i o l b → b ≡ true → Counted heads pos neg gate k cpos cneg m atoms t at i o start 0
+  found-lacks b K e =
+      record {
+        is = λ n rs cs T. let w = K .upper e in
+            sym (lacks n rs cs heads pos neg gate k cpos cneg m _ i o start T l B (w .0) (upper n rs cs heads pos neg gate k cpos cneg m _ i o start T l B (w .0) (w .1)) (w .2));
+        small = omega arith;
+      }
 
-    module _ (r : ℕ) (s : r < 2 ^ 64) (W : Both l o r) (z : r ≡ 0) (b : Bool) (S : Subset i u b) (f : b ≡ true) (over : t ≤ at) where
-      none-left : undecided atoms at t ≡ []
-      none-left = ap (map (λ j. getD atoms j 0)) (range-over at t over)
-
-      pub found-one : (d : Bool) → Lawful cpos cneg m l d → d ≡ true → Counted heads pos neg gate k cpos cneg m atoms t at i o start 1
-      found-one d K e =
-          record { is = λ n rs cs T. leaf n rs cs heads pos neg gate k cpos cneg m _ i o start T l B u C none-left r s W z b S f d K 1 (inl (e, refl)); small = pow-pos (t - at) }
-
-      pub found-none : (d : Bool) → Lawful cpos cneg m l d → d ≡ false → Counted heads pos neg gate k cpos cneg m atoms t at i o start 0
-      found-none d K e =
-          record { is = λ n rs cs T. leaf n rs cs heads pos neg gate k cpos cneg m _ i o start T l B u C none-left r s W z b S f d K 0 (inr (e, refl)); small = omega arith }
+  pub found-leaf : (r v : ℕ) → r < 2 ^ 64 → Both l o r → r ≡ 0 → t ≤ at → Leaf cpos cneg m i l v → Counted heads pos neg gate k cpos cneg m atoms t at i o start v
+  found-leaf r v s W z over K =
+      record {
+        is = λ n rs cs T. candidate n rs cs heads pos neg gate k cpos cneg m _ i o start T l B (ap (map (λ j. getD atoms j 0)) (range-over at t over)) r s W z v K;
+        small = let p = pow-pos (t - at) in let q = leaf-small cpos cneg m i l v K in omega arith;
+      }
 
   pub found-sum : (c i′ o′ v w : ℕ) → at < t → c ≡ getD atoms at 0 → With i c i′ → With o c o′
       → Counted heads pos neg gate k cpos cneg m atoms t (at + 1) i′ o l v → Counted heads pos neg gate k cpos cneg m atoms t (at + 1) i o′ l w

@@ -52,10 +52,6 @@ pub record FiredAt (heads pos neg gate : List ℕ) (j : ℕ) (sure : Bool) (i o 
   pub asked : Applies sure i o (getD neg j 0) (getD gate j 0) flag
   pub fired : Fired l (getD heads j 0) (getD pos j 0) flag r
 
--- The heads are atoms below 64.
-pub record Low (heads : List ℕ) (k : ℕ) : Type 0 where
-  pub low : (j : ℕ) → j < k → getD heads j 0 < 64
-
 -- One pass over the rules: nothing is lost, nothing is added that a closed set lacks, and where nothing is added the set is closed.
 pub record Passed (f : State → State) (l r : ℕ) : Type 0 where
   pub below : (Y : State) → Closed f Y → Inside (has l) Y → Inside (has r) Y

@@ -6,15 +6,16 @@ use bits::with;
 ghost use mathlib.Core.Path.{_≡_};
 ghost use mathlib.Core.List.{List};
 ghost use mathlib.Core.Bool.{Bool, not};
-ghost use Prim.Native.Nat.{ℕ, _≤_, _<_};
+ghost use Prim.Native.Nat.{ℕ, _+_, _≤_, _<_};
 ghost use lib.ListN.{getD};
 ghost use Rattle.lists.specs.Lists.{all};
 ghost use Rattle.asp.specs.Program.{Body, State, holds};
 ghost use Rattle.asp.specs.LeastModel.{Closed, Inside, Least};
 ghost use Rattle.asp.specs.Decided.{CountRule};
 ghost use Rattle.bits.specs.Sets.{has};
-ghost use Rattle.counting.specs.Rules.{Applies, Fired, FiredAt, Low, PassedBy, LeastBy, BodyHolds, Lawful};
-ghost use Rattle.counting.specs.Search.{Counted};
+ghost use Rattle.counting.specs.Rules.{Applies, Fired, FiredAt, PassedBy, LeastBy, BodyHolds, Lawful};
+ghost use Rattle.bits.specs.Listed.{Low};
+ghost use Rattle.counting.specs.Search.{Leaf, Lacking, Counted};
 
 // Does a rule with these negative atoms and this gate apply: surely, or possibly?
 fn applies(sure: bool, i: u64, o: u64, neg: u64, gate: u64) -> bool
@@ -65,12 +66,24 @@ fn fire_at(
     fire(l, wide(heads[j]), pos[j], b)
 }
 
-// One pass over the first k rules.
+// The index to go on at: behind j, or the one given where the set has grown.
+fn onward(x: u64, y: u64, back: u8, j: usize) -> usize
+    requires { ⌜ j < 128 ⌝ }
+    ensures { λ r. ⌜ (x ≡ y → r ≡ j + 1) ⌝ }
+{
+    if x != y {
+        return wide(back);
+    }
+    j + 1
+}
+
+// A pass over the first k rules: where the rule at j adds its head, it goes on at back[j].
 fn pass(
     heads: &[u8; 128],
     pos: &[u64; 128],
     neg: &[u64; 128],
     gate: &[u64; 128],
+    back: &[u8; 128],
     k: usize,
     sure: bool,
     i: u64,
@@ -83,8 +96,9 @@ fn pass(
     let mut x = l;
     let mut j = 0;
     while j < k {
-        x = fire_at(heads, pos, neg, gate, j, sure, i, o, x);
-        j += 1;
+        let y = fire_at(heads, pos, neg, gate, j, sure, i, o, x);
+        j = onward(x, y, back[j], j);
+        x = y;
     }
     x
 }
@@ -95,6 +109,7 @@ fn least(
     pos: &[u64; 128],
     neg: &[u64; 128],
     gate: &[u64; 128],
+    back: &[u8; 128],
     k: usize,
     sure: bool,
     i: u64,
@@ -105,10 +120,10 @@ fn least(
     ensures { λ r. ⌜ LeastBy (now (heads .entry)) (now (pos .entry)) (now (neg .entry)) (now (gate .entry)) k sure i o start r ⌝ }
 {
     let mut x = start;
-    let mut next = pass(heads, pos, neg, gate, k, sure, i, o, x);
+    let mut next = pass(heads, pos, neg, gate, back, k, sure, i, o, x);
     while next != x {
         x = next;
-        next = pass(heads, pos, neg, gate, k, sure, i, o, x);
+        next = pass(heads, pos, neg, gate, back, k, sure, i, o, x);
     }
     x
 }
@@ -138,13 +153,52 @@ fn lawful(pos: &[u64; 128], neg: &[u64; 128], k: usize, x: u64) -> bool
     true
 }
 
+// With every atom decided the least model is the only candidate: 1 where it has i and breaks none of the m constraints, otherwise 0.
+fn leaf(cpos: &[u64; 128], cneg: &[u64; 128], m: usize, i: u64, l: u64) -> u64
+    requires { ⌜ m ≤ 128 ⌝ }
+    ensures { λ r. ⌜ Leaf (now (cpos .entry)) (now (cneg .entry)) m i l r ⌝ }
+{
+    if !subset(i, l) {
+        return 0;
+    }
+    if lawful(cpos, cneg, m, l) {
+        return 1;
+    }
+    0
+}
+
+// Does the least model of the rules that possibly apply lack some of i? It is asked only where i has grown.
+fn lacking(
+    heads: &[u8; 128],
+    pos: &[u64; 128],
+    neg: &[u64; 128],
+    gate: &[u64; 128],
+    back: &[u8; 128],
+    k: usize,
+    grown: bool,
+    i: u64,
+    o: u64,
+    l: u64,
+) -> bool
+    requires { ⌜ (k ≤ 128) × Low (now heads) k ⌝ }
+    ensures { λ r. ⌜ Lacking (now (heads .entry)) (now (pos .entry)) (now (neg .entry)) (now (gate .entry)) k i o l r ⌝ }
+{
+    if grown {
+        let u = least(heads, pos, neg, gate, back, k, false, i, o, l);
+        return !subset(i, u);
+    }
+    false
+}
+
 // The number of settled states that have i and nothing of o, where atoms[at..t] are still to be decided. A settled state that
-// agrees lies between two least models: of the rules that surely apply, and of those that possibly do.
+// agrees lies between two least models: of the rules that surely apply, and of those that possibly do. The second is asked for
+// where the last decision put an atom in.
 pub fn branch(
     heads: &[u8; 128],
     pos: &[u64; 128],
     neg: &[u64; 128],
     gate: &[u64; 128],
+    back: &[u8; 128],
     k: usize,
     cpos: &[u64; 128],
     cneg: &[u64; 128],
@@ -155,22 +209,19 @@ pub fn branch(
     i: u64,
     o: u64,
     start: u64,
+    grown: bool,
 ) -> u64
     requires { ⌜ (k ≤ 128) × Low (now heads) k × (m ≤ 128) × (t ≤ 16) × Low (now atoms) t ⌝ }
     ensures { λ r. ⌜ Counted (now (heads .entry)) (now (pos .entry)) (now (neg .entry)) (now (gate .entry)) k (now (cpos .entry)) (now (cneg .entry)) m (now (atoms .entry)) t at i o start r ⌝ }
 {
-    let l = least(heads, pos, neg, gate, k, true, i, o, start);
+    let l = least(heads, pos, neg, gate, back, k, true, i, o, start);
     if intersection(l, o) != 0 {
         return 0;
     }
-    let u = least(heads, pos, neg, gate, k, false, i, o, l);
-    if !subset(i, u) {
-        return 0;
-    }
     if t <= at {
-        if lawful(cpos, cneg, m, l) {
-            return 1;
-        }
+        return leaf(cpos, cneg, m, i, l);
+    }
+    if lacking(heads, pos, neg, gate, back, k, grown, i, o, l) {
         return 0;
     }
     let c = wide(atoms[at]);
@@ -180,6 +231,7 @@ pub fn branch(
         pos,
         neg,
         gate,
+        back,
         k,
         cpos,
         cneg,
@@ -190,12 +242,14 @@ pub fn branch(
         with(i, c),
         o,
         l,
+        true,
     );
     let outside = branch(
         heads,
         pos,
         neg,
         gate,
+        back,
         k,
         cpos,
         cneg,
@@ -206,6 +260,7 @@ pub fn branch(
         i,
         with(o, c),
         l,
+        false,
     );
     inside + outside
 }

@@ -10,7 +10,7 @@ use lib.ListN.{length}
 use Rattle.lists.proofs.Bools.{by-bool}
 use Rattle.sheet.specs.Format.{end, positives}
 use Rattle.sheet.specs.declared.Limits.{Limits}
-use Rattle.core.specs.Outcome.{refused, answered, outcome, code, readOf, verdictOf, countOf, writeOf, Writes}
+use Rattle.core.specs.Outcome.{refused, answered, outcome, code, readOf, testOf, verdictOf, countOf, writeOf, Writes}
 use Rattle.core.specs.Outputs.{place}
 use Rattle.core.specs.Operations.{bodyQuestions}
 use Rattle.core.specs.Bodies.{BodyFound}
@@ -20,6 +20,8 @@ use Rattle.core.specs.declared.CountAnswer.the-variants as counted
 use Rattle.core.specs.declared.Verdict.{Verdict}
 use Rattle.core.specs.declared.ReadAnswer.{ReadAnswer}
 use Rattle.core.specs.declared.ReadAnswer.the-variants as read
+use Rattle.core.specs.declared.TestAnswer.{TestAnswer}
+use Rattle.core.specs.declared.TestAnswer.the-variants as test
 use Rattle.core.specs.declared.WriteAnswer.{WriteAnswer}
 use Rattle.core.specs.declared.WriteAnswer.the-variants as write
 use Rattle.exports.specs.Exported.{stored, Two, Three, Output}
@@ -70,6 +72,13 @@ module _ (q x y old-x old-y : ℕ) (answer : CountAnswer) (says : countOf answer
       let a : c ≡ x = cc same in
       let b : code (verdictOf v) ≡ y = cc same in
       record { says = sym (eqb-true q 0 (u .1)); first = a ∙ taken q x old-x (u .1); second = w ∙ (b ∙ taken q y old-y (u .1)) }
+
+module _ (q : ℕ) (answer : TestAnswer) (says : testOf answer ≡ outcome q []) where
+  pub test-no : (k : ℕ) → answer ≡ test.Refused k → k ≡ q
+  test-no k e = is-refused k q [] (sym (ap testOf e) ∙ says) .0
+
+  pub test-yes : answer ≡ test.Passed → 0 ≡ q
+  test-yes e = sym (eqb-true q 0 (is-answered [] q [] (sym (ap testOf e) ∙ says) .1))
 
 module _ {A : Type 0} (q old-length : ℕ) (output old new : List A) (answer : WriteAnswer) (W : Writes q output old new answer) where
   pub write-no : (k : ℕ) → answer ≡ write.Refused k → Output q k output old new old-length old-length

@@ -1,6 +1,7 @@
 // The operations for C and Rust: include/rulesheet.h declares them.
 use core::CountAnswer;
 use core::ReadAnswer;
+use core::TestAnswer;
 use core::Verdict;
 use core::WriteAnswer;
 use office::components;
@@ -8,6 +9,7 @@ use office::count;
 use office::default_sequence;
 use office::find_body;
 use office::read;
+use office::test;
 ghost use mathlib.Core.Path.{_≡_};
 ghost use Prim.Native.Nat.{_+_, _-_};
 ghost use lib.ListN.{length};
@@ -16,7 +18,7 @@ ghost use Rattle.sheet.specs.Sheet.{program};
 ghost use Rattle.sheet.specs.Format.{atomsByte, recordsByte, positives, end};
 ghost use Rattle.core.specs.Outcome.{code, verdictOf};
 ghost use Rattle.core.specs.Outputs.{componentBytes, defaultBytes, place};
-ghost use Rattle.core.specs.Operations.{readQuestions, bodyQuestions, componentsQuestions, defaultQuestions, countQuestions};
+ghost use Rattle.core.specs.Operations.{readQuestions, bodyQuestions, componentsQuestions, defaultQuestions, testQuestions, countQuestions};
 ghost use Rattle.office.specs.Office.{office};
 ghost use Rattle.exports.specs.Exported.{Two, Three, Output};
 
@@ -87,6 +89,18 @@ pub extern "C" fn rulesheet_default(sheet: &[u8], out: &mut [u8], written: &mut 
             *written = l;
             0
         }
+    }
+}
+
+// Testing a sequence.
+#[no_mangle]
+pub extern "C" fn rulesheet_test(sheet: &[u8], sequence: &[u8]) -> u32
+    ensures { λ r. ⌜ r ≡ testQuestions office (now (sheet .entry)) (now (sequence .entry)) ⌝ }
+{
+    let answer = test(sheet, sequence);
+    match answer {
+        TestAnswer::Refused(q) => q,
+        TestAnswer::Passed => 0,
     }
 }
 

@@ -3,10 +3,6 @@ use mathlib.Core.Bool.{Bool, true, false, not, _&&_, _||_, true≢false, false�
 use mathlib.Core.Logic.{_⊎_, inl, inr}
 use mathlib.Core.Path.{_≡_, refl, sym, _∙_}
 
-pub bool-cases : (b : Bool) → (b ≡ true) ⊎ (b ≡ false)
-bool-cases true = inl refl
-bool-cases false = inr refl
-
 -- Both cases of a computed Bool, each with its equation.
 pub by-bool : {C : Type 0} (b : Bool) → (b ≡ true → C) → (b ≡ false → C) → C
 by-bool true t f = t refl

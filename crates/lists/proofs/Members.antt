@@ -1,6 +1,6 @@
 -- What `all`, `any`, `filter`, `member`, `range` and `flatMap` say of a list's members.
 use mathlib.Core.Bool.{Bool, true, false, not, _&&_, _||_, false≢true}
-use mathlib.Core.List.{List, [], _∷_, _++_, map, flatMap, List·Memᴰ, List·Memᴰ·head, List·Memᴰ·tail, List·Memᴰ·not-nil, List·Memᴰ·cases-cons, List·Memᴰ·append-cases, Memᴰ·append-left, Memᴰ·append-right}
+use mathlib.Core.List.{List, [], _∷_, _++_, map, flatMap, List·Memᴰ, List·Memᴰ·head, List·Memᴰ·tail, List·Memᴰ·not-nil, List·Memᴰ·cases-cons, List·Memᴰ·append-cases, append-nil, Memᴰ·append-left, Memᴰ·append-right}
 use mathlib.Core.Logic.{⊎-elim}
 use mathlib.Core.Path.{_≡_, refl, sym, _∙_, ap, ap₂, subst}
 use Prim.Native.Nat.{ℕ, zero, suc, _+_, _-_, _≤_, _<_}
@@ -35,9 +35,6 @@ module _ {A : Type 0} where
   unfolding any
   any-at p [] e = absurd (false≢true e)
   any-at p (y ∷ l) e = ⊎-elim (λ q. (y, List·Memᴰ·head refl, q)) (λ q. let r = any-at p l q in (r .0, List·Memᴰ·tail (r .1), r .2)) (or-cases (p y) (any p l) e)
-
-  pub any-none : (p : A → Bool) (l : List A) → any p l ≡ false → (x : A) → List·Memᴰ x l → p x ≡ false
-  any-none p l e x m = is-false (λ t. true-false (any-intro p l x m t) e)
 
   pub all-fails : (p : A → Bool) (l : List A) → all p l ≡ false → (x : A) × List·Memᴰ x l × (p x ≡ false)
   unfolding all
@@ -210,3 +207,12 @@ range-append a (suc j) k =
     let e : suc j + k ≡ suc (j + k) = omega arith in
     let f : suc a + j ≡ a + suc j = omega arith in
     ap (range a) e ∙ ap (λ l. a ∷ l) (range-append (suc a) j k ∙ ap (λ i. range (suc a) j ++ range i k) f)
+
+-- Where the test holds below n only, a longer range gives the same.
+pub filter-range : (p : ℕ → Bool) (n m : ℕ) → n ≤ m → ((a : ℕ) → p a ≡ true → a < n) → filter p (range 0 m) ≡ filter p (range 0 n)
+filter-range p n m l h =
+    let size : m ≡ n + (m - n) = omega arith in
+    ap (λ k. filter p (range 0 k)) size
+    ∙ (ap (filter p) (range-append 0 n (m - n)) ∙ (filter-append p (range 0 n) (range (0 + n) (m - n))
+    ∙ (ap (λ l. filter p (range 0 n) ++ l) (filter-none p (range (0 + n) (m - n)) (λ a k. is-false (λ t. let r = range-out (0 + n) (m - n) a k in let low = h a t in let high = r .low in absurd (omega arith))))
+    ∙ append-nil (filter p (range 0 n)))))

@@ -3,6 +3,7 @@ use core::BodyAnswer;
 use core::BodyPlace;
 use core::CountAnswer;
 use core::ReadAnswer;
+use core::TestAnswer;
 use core::WriteAnswer;
 use sheet::Limits;
 ghost use mathlib.Core.Path.{_≡_};
@@ -11,10 +12,10 @@ ghost use mathlib.Core.Bool.{cond};
 ghost use lib.Dec.{eqb};
 ghost use lib.ListN.{length};
 ghost use Rattle.sheet.specs.Format.{atomsByte, recordsByte, positives};
-ghost use Rattle.core.specs.Outcome.{readOf, bodyOf, countOf, outcome, Writes};
+ghost use Rattle.core.specs.Outcome.{readOf, bodyOf, testOf, countOf, outcome, Writes};
 ghost use Rattle.core.specs.Bodies.{BodyFound};
 ghost use Rattle.core.specs.Outputs.{componentBytes, defaultBytes, place, stretch};
-ghost use Rattle.core.specs.Operations.{readQuestions, bodyQuestions, componentsQuestions, defaultQuestions, countQuestions, countValues};
+ghost use Rattle.core.specs.Operations.{readQuestions, bodyQuestions, componentsQuestions, defaultQuestions, testQuestions, countQuestions, countValues};
 ghost use Rattle.office.specs.Office.{office};
 
 fn limits() -> Limits
@@ -75,4 +76,11 @@ pub fn count(s: &[u8]) -> CountAnswer
     ensures { λ r. ⌜ countOf r ≡ outcome (countQuestions office (now (s .entry))) (countValues (now (s .entry))) ⌝ }
 {
     core::count(limits(), s)
+}
+
+// Testing a sequence: the refusal, or that it passed.
+pub fn test(s: &[u8], q: &[u8]) -> TestAnswer
+    ensures { λ r. ⌜ testOf r ≡ outcome (testQuestions office (now (s .entry)) (now (q .entry))) [] ⌝ }
+{
+    core::test(limits(), s, q)
 }

@@ -1,4 +1,4 @@
-// Reading a sheet's bytes: questions 1 to 6, and the places of its records.
+// Reading the bytes of sheets and sequences: questions 1 to 6 and 8, and the places of records.
 use bits::byte_at;
 ghost use mathlib.Core.Path.{_≡_};
 ghost use mathlib.Core.Bool.{Bool, true, _&&_};
@@ -6,6 +6,8 @@ ghost use Prim.Native.Nat.{ℕ, _+_, _≤_, _<_};
 ghost use lib.ListN.{length};
 ghost use Rattle.sheet.specs.Format.{complete, Complete, kindFits, kindPasses, listFits, listsFit, recordQuestions, recordsQuestions, formQuestions, end};
 ghost use Rattle.sheet.specs.Sheet.{Walk, Stepped};
+ghost use Rattle.sheet.specs.Sequence.{entries, sequenceFits};
+ghost use Rattle.lists.specs.Lists.{below};
 
 // What a service takes: the most atoms and records of a sheet, atoms of a component, and entries of a sequence.
 pub struct Limits {
@@ -164,4 +166,39 @@ pub fn next_record(s: &[u8], at: usize, left: usize, n: usize) -> usize
     ensures { λ r. ⌜ Stepped (now (s .entry)) n left at r ⌝ }
 {
     record_end(s, at)
+}
+
+// Are the entries of a sequence below n?
+fn entries_fit(q: &[u8], n: usize) -> bool
+    requires { do ⌜ 3 ≤ (← ⟦q.len()⟧) ⌝ }
+    ensures { λ r. ⌜ r ≡ below n (entries (now (q .entry))) ⌝ }
+{
+    let mut i = 3;
+    while i < q.len() {
+        if n <= byte_at(q, i) {
+            return false;
+        }
+        i += 1;
+    }
+    true
+}
+
+// Question 8, of a sequence for n atoms.
+pub fn sequence_fits(limits: Limits, n: usize, q: &[u8]) -> bool
+    ensures { λ r. ⌜ r ≡ sequenceFits limits n (now (q .entry)) ⌝ }
+{
+    if q.len() < 3 {
+        return false;
+    }
+    if byte_at(q, 0) != 1 {
+        return false;
+    }
+    let t = byte_at(q, 1) * 256 + byte_at(q, 2);
+    if limits.entries < t {
+        return false;
+    }
+    if q.len() != t + 3 {
+        return false;
+    }
+    entries_fit(q, n)
 }

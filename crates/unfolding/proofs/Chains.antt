@@ -57,7 +57,7 @@ module _ (P : Program) where
   linked-tail b (a ∷ w) e = and-right (edge P b a) (linked P (a ∷ w)) e
 
   -- A chain without its first atom, and what its first atom is to it.
-  chain-tail : (b a : ℕ) (w : List ℕ) → Chain P (b ∷ a ∷ w) → Chain P (a ∷ w)
+  pub chain-tail : (b a : ℕ) (w : List ℕ) → Chain P (b ∷ a ∷ w) → Chain P (a ∷ w)
   chain-tail b a w C =
       record {
         atoms = below-in (P .atoms) (a ∷ w) (λ x m. below-at (P .atoms) (b ∷ a ∷ w) (C .atoms) x (List·Memᴰ·tail m));

@@ -1,11 +1,14 @@
-//! bench: times the library's count beside clasp's on the same sheets and compares the counts.
+//! bench: times the library's count beside clasp's on the same sheets and compares the counts; then its test of a
+//! sequence beside walks over all chains.
 //! bench --one FILE: prints the count of the sheet in a file.
 
 use rulesheet_tests::inputs::{add_choices, cycle, Style};
-use rulesheet_tests::library::plain_count;
+use rulesheet_tests::library::{plain_count, plain_test};
 use rulesheet_tests::random::Random;
+use rulesheet_tests::reference::{all_found, Graph};
 use rulesheet_tests::report::Tally;
-use rulesheet_tests::sheet::{rule, Record, Sheet, RULE};
+use rulesheet_tests::sequences::{padded, MOST_ENTRIES};
+use rulesheet_tests::sheet::{rule, sequence_bytes, Record, Sheet, RULE};
 use std::fmt::Write;
 use std::hint::black_box;
 use std::path::Path;
@@ -40,8 +43,19 @@ fn compare() -> ! {
     println!("| sheets | number | states | call | process | clasp | clasp / call | clasp / process |");
     println!("|---|--:|--:|--:|--:|--:|--:|--:|");
     let mut tally = Tally::default();
+    compare_counts(&folder, &mut tally);
+    fs::remove_dir_all(&folder).expect("the folder is removed");
+    println!("\nmilliseconds; `remembered` is the reference's depth-first walk, `plain` one over all chains, each run once\n");
+    println!("| complete components | entries | answer | call | remembered | plain | plain / call |");
+    println!("|---|--:|--:|--:|--:|--:|--:|");
+    compare_tests(&mut tally);
+    println!();
+    tally.finish()
+}
+
+fn compare_counts(folder: &Path, tally: &mut Tally) {
     for (name, sheets) in families() {
-        let measured: Vec<Measured> = sheets.iter().map(|sheet| Measured::new(sheet, &folder)).collect();
+        let measured: Vec<Measured> = sheets.iter().map(|sheet| Measured::new(sheet, folder)).collect();
         print_row(name, &measured);
         for result in measured.iter().map(Measured::agreement) {
             tally.add(&result);
@@ -50,9 +64,48 @@ fn compare() -> ! {
             }
         }
     }
-    fs::remove_dir_all(&folder).expect("the folder is removed");
-    println!();
-    tally.finish()
+}
+
+/// Sequences for complete components: the default, the default with its first entry repeated up to the limit, and half
+/// of the default, which lacks chains.
+fn compare_tests(tally: &mut Tally) {
+    for (components, size) in [(1, 8), (1, 10), (6, 10)] {
+        let sheet = complete(components, size);
+        let graph = Graph::new(&sheet);
+        let default = graph.default_sequence();
+        let half = &default[..default.len() / 2];
+        for entries in [&default[..], &padded(&default, MOST_ENTRIES), half] {
+            let answer = all_found(&graph, entries);
+            let (sheet_bytes, sequence) = (sheet.bytes(), sequence_bytes(entries));
+            let (call_answer, call) = time_loop(|| plain_test(&sheet_bytes, &sequence));
+            let (_, remembered) = time_once(|| all_found(&graph, entries));
+            let (plain_answer, plain) = time_once(|| graph.atoms().all(|atom| walk(&graph, entries, atom, 0, 0)));
+            println!(
+                "| {components} of {size} | {} | {answer} | {call:.4} | {remembered:.2} | {plain:.2} | {:.1} |",
+                entries.len(),
+                plain / call
+            );
+            let same = call_answer == answer && plain_answer == answer;
+            tally.add(&if same { Ok(()) } else { Err("the answers differ".to_string()) });
+        }
+    }
+}
+
+/// Components in which each atom has an edge to every other.
+fn complete(components: u8, size: u8) -> Sheet {
+    let block = |first: u8| {
+        let others = move |atom| (first..first + size).filter(|&other| other != atom).collect::<Vec<u8>>();
+        (first..first + size).map(move |atom| rule(atom, &others(atom), &[]))
+    };
+    Sheet::new(components * size, (0..components).flat_map(|place| block(place * size)).collect())
+}
+
+/// Whether `next` and every chain that goes on from it over atoms outside `used` is found from `start` on.
+fn walk(graph: &Graph, entries: &[u8], next: u8, used: u64, start: usize) -> bool {
+    let Some(place) = entries[start..].iter().position(|&entry| entry == next) else { return false };
+    let used = used | 1 << next;
+    let mut rest = graph.successors(next).iter().filter(|&&atom| used >> atom & 1 == 0);
+    rest.all(|&atom| walk(graph, entries, atom, used, start + place + 1))
 }
 
 /// One sheet's counts, by call, process and clasp, and their times in milliseconds.
@@ -67,7 +120,7 @@ impl Measured {
         let (sheet_file, lparse_file) = (folder.join("sheet"), folder.join("sheet.lparse"));
         fs::write(&sheet_file, &bytes).expect("the sheet is written");
         fs::write(&lparse_file, lparse(sheet)).expect("the sheet is written");
-        let (call_count, call_time) = time_calls(&bytes);
+        let (call_count, call_time) = time_loop(|| count(black_box(&bytes)));
         let mut one = Command::new(env::current_exe().expect("this program's path"));
         one.arg("--one").arg(&sheet_file);
         let mut clasp = Command::new("clasp");
@@ -98,18 +151,25 @@ impl Measured {
     }
 }
 
-fn time_calls(sheet: &[u8]) -> (u64, f64) {
+/// The answer and the milliseconds of one call in a loop.
+fn time_loop<A>(call: impl Fn() -> A) -> (A, f64) {
     let start = Instant::now();
-    let states = count(sheet);
+    let answer = call();
     let calls = (ROUND.as_nanos() / start.elapsed().as_nanos().max(1)).max(1) as u32;
     let round = || {
         let start = Instant::now();
         for _ in 0..calls {
-            black_box(count(black_box(sheet)));
+            black_box(call());
         }
         start.elapsed() / calls
     };
-    (states, median((0..ROUNDS).map(|_| round()).collect()))
+    (answer, median((0..ROUNDS).map(|_| round()).collect()))
+}
+
+fn time_once<A>(call: impl Fn() -> A) -> (A, f64) {
+    let start = Instant::now();
+    let answer = call();
+    (answer, start.elapsed().as_secs_f64() * 1e3)
 }
 
 /// In milliseconds.
@@ -167,6 +227,8 @@ fn families() -> Vec<(&'static str, Vec<Sheet>)> {
         ("last of 16 decides", vec![Sheet::new(64, twice(last_decides()))]),
         ("last of 16 decides, shuffled", vec![Sheet::new(64, twice(shuffled))]),
         ("last of 16 decides, reverse", vec![Sheet::new(64, twice(reverse(last_decides())))]),
+        ("last of 16 decides, 4 cycles of 10, reverse", vec![Sheet::new(64, twice(reverse(last_decides_by_cycles())))]),
+        ("last of 16 decides, 100 idle rules", vec![Sheet::new(64, last_decides_idle())]),
     ]
 }
 
@@ -206,6 +268,27 @@ fn last_decides() -> Vec<Record> {
     let order: Vec<u8> = (16..64).chain(0..15).collect();
     let links = order.windows(2).map(|pair| rule(pair[1], &[pair[0]], &[]));
     [rule(15, &[], &others), rule(16, &[], &[15])].into_iter().chain(links).collect()
+}
+
+/// The same, where the chain goes through four cycles of ten atoms.
+fn last_decides_by_cycles() -> Vec<Record> {
+    let mut records = last_decides();
+    records.truncate(2);
+    let order: Vec<u8> = (16..56).chain(0..15).collect();
+    records.extend(order.windows(2).map(|pair| rule(pair[1], &[pair[0]], &[])));
+    records.extend((16..56).step_by(10).map(|first| rule(first, &[first + 9], &[])));
+    records
+}
+
+/// The same with one component of ten atoms: each that is derived brings passes back to the first of many rules that never apply.
+fn last_decides_idle() -> Vec<Record> {
+    let component: Vec<u8> = (16..26).collect();
+    let mut records = vec![rule(16, &component, &[])];
+    records.extend((0..100).map(|place| rule(25, &[16 + place % 10, 26], &[])));
+    records.extend((17..26).rev().map(|atom| rule(atom, &[atom - 1], &[])));
+    records.extend([rule(15, &[], &(0..15).collect::<Vec<u8>>()), rule(16, &[], &[15])]);
+    records.extend((0..15).map(|atom| rule(atom, &[25], &[])));
+    records
 }
 
 fn reverse(mut records: Vec<Record>) -> Vec<Record> {

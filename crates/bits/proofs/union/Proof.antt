@@ -1,5 +1,4 @@
 -- `bits::union` meets its contract, one law for each way through it.
-use borrow.Author.Needs.{needs}
 use Rattle.bits.proofs.Digits.{or-has}
 use Rattle.bits.proofs.union.Statement.{statement}
 use Rattle.bits.proofs.union.Tie as tie

@@ -1,41 +1,41 @@
 -- `counting::branch` meets its contract, one law for each way through it.
-use Prim.Native.Nat.{ℕ, _-_, _<_}
+use Prim.Native.Nat.{_-_}
+use Prim.Native.Nat.{ℕ, _<_}
 use native.Mathlib.Omega.{arith}
 use borrow.Author.Needs.{needs}
-use borrow.Author.Tests.{not-true, not-false}
 use borrow.Fn.Kinds.{In}
 use borrow.Fn.PlainCycle.{Measures, is, falls, and}
+use Rattle.counting.proofs.Search.{found-met, found-leaf, found-lacks, found-sum, low-here, few}
+use Rattle.counting.proofs.branch.Reads as branch
+use Rattle.counting.proofs.branch.Kinds as branch-kinds
+use Rattle.counting.proofs.+branch.Lts-branch as branch-lts
 use Rattle.bits.proofs.intersection.Reads as intersection-reads
-use Rattle.bits.proofs.subset.Reads as subset-reads
 use Rattle.bits.proofs.wide.Reads as wide-reads
 use Rattle.bits.proofs.with.Reads as with-reads
-use Rattle.counting.proofs.+branch.Lts-branch as branch-lts
-use Rattle.counting.proofs.+branch.Tie.{close}
-use Rattle.counting.proofs.+branch.{statement}
-use Rattle.counting.proofs.Search.{found-met, found-lacks, found-one, found-none, found-sum, low-here, few}
-use Rattle.counting.proofs.branch.Kinds as branch-kinds
-use Rattle.counting.proofs.branch.Reads as branch
-use Rattle.counting.proofs.lawful.Reads as lawful-reads
+use Rattle.counting.proofs.lacking.Reads as lacking-reads
+use Rattle.counting.proofs.leaf.Reads as leaf-reads
 use Rattle.counting.proofs.least.Reads as least-reads
+use Rattle.counting.proofs.+branch.{statement}
+use Rattle.counting.proofs.+branch.Tie.{close}
 
-abbrev μ-branch : Measures 7 branch-kinds.ps ℕ
-μ-branch κs a = a .1 .1 .1 .1 .1 .1 .1 .1 .1 .0 - a .1 .1 .1 .1 .1 .1 .1 .1 .1 .1 .0
+abbrev μ-branch : Measures 8 branch-kinds.ps ℕ
+μ-branch κs a = a .1 .1 .1 .1 .1 .1 .1 .1 .1 .1 .0 - a .1 .1 .1 .1 .1 .1 .1 .1 .1 .1 .1 .0
 
-abbrev branch-at : ℕ → In 7 branch-kinds.ps
-branch-at t = and 7 branch-kinds.ps (is 7 branch-kinds.ps μ-branch t) branch.Pre
+abbrev branch-at : ℕ → In 8 branch-kinds.ps
+branch-at t = and 8 branch-kinds.ps (is 8 branch-kinds.ps μ-branch t) branch.Pre
 
-abbrev branch-below : ℕ → In 7 branch-kinds.ps
-branch-below t = and 7 branch-kinds.ps (falls 7 branch-kinds.ps _<_ μ-branch t) branch.Pre
+abbrev branch-below : ℕ → In 8 branch-kinds.ps
+branch-below t = and 8 branch-kinds.ps (falls 8 branch-kinds.ps _<_ μ-branch t) branch.Pre
 
 branch-least-requires : (t : ℕ) → branch-lts.Need-least-requires (
   least-reads.Asked,
   least-reads.Learnt,
   intersection-reads.Asked,
   intersection-reads.Learnt,
-  subset-reads.Asked,
-  subset-reads.Learnt,
-  lawful-reads.Asked,
-  lawful-reads.Learnt,
+  leaf-reads.Asked,
+  leaf-reads.Learnt,
+  lacking-reads.Asked,
+  lacking-reads.Learnt,
   wide-reads.Asked,
   wide-reads.Learnt,
   with-reads.Asked,
@@ -50,10 +50,10 @@ branch-intersection-requires : (t : ℕ) → branch-lts.Need-intersection-requir
   least-reads.Learnt,
   intersection-reads.Asked,
   intersection-reads.Learnt,
-  subset-reads.Asked,
-  subset-reads.Learnt,
-  lawful-reads.Asked,
-  lawful-reads.Learnt,
+  leaf-reads.Asked,
+  leaf-reads.Learnt,
+  lacking-reads.Asked,
+  lacking-reads.Learnt,
   wide-reads.Asked,
   wide-reads.Learnt,
   with-reads.Asked,
@@ -68,10 +68,10 @@ branch-returns : (t : ℕ) → branch-lts.Need-returns (
   least-reads.Learnt,
   intersection-reads.Asked,
   intersection-reads.Learnt,
-  subset-reads.Asked,
-  subset-reads.Learnt,
-  lawful-reads.Asked,
-  lawful-reads.Learnt,
+  leaf-reads.Asked,
+  leaf-reads.Learnt,
+  lacking-reads.Asked,
+  lacking-reads.Learnt,
   wide-reads.Asked,
   wide-reads.Learnt,
   with-reads.Asked,
@@ -81,15 +81,15 @@ branch-returns : (t : ℕ) → branch-lts.Need-returns (
 ) (branch-at t) branch.Post
 branch-returns t c = search (needs, found-met)
 
-branch-least-requires-2 : (t : ℕ) → branch-lts.Need-least-requires-2 (
+branch-leaf-requires : (t : ℕ) → branch-lts.Need-leaf-requires (
   least-reads.Asked,
   least-reads.Learnt,
   intersection-reads.Asked,
   intersection-reads.Learnt,
-  subset-reads.Asked,
-  subset-reads.Learnt,
-  lawful-reads.Asked,
-  lawful-reads.Learnt,
+  leaf-reads.Asked,
+  leaf-reads.Learnt,
+  lacking-reads.Asked,
+  lacking-reads.Learnt,
   wide-reads.Asked,
   wide-reads.Learnt,
   with-reads.Asked,
@@ -97,35 +97,17 @@ branch-least-requires-2 : (t : ℕ) → branch-lts.Need-least-requires-2 (
   branch-below t,
   branch.Post,
 ) (branch-at t) branch.Post
-branch-least-requires-2 t c κs = search needs
-
-branch-subset-requires : (t : ℕ) → branch-lts.Need-subset-requires (
-  least-reads.Asked,
-  least-reads.Learnt,
-  intersection-reads.Asked,
-  intersection-reads.Learnt,
-  subset-reads.Asked,
-  subset-reads.Learnt,
-  lawful-reads.Asked,
-  lawful-reads.Learnt,
-  wide-reads.Asked,
-  wide-reads.Learnt,
-  with-reads.Asked,
-  with-reads.Learnt,
-  branch-below t,
-  branch.Post,
-) (branch-at t) branch.Post
-branch-subset-requires t c κs = search needs
+branch-leaf-requires t c κs = search needs
 
 branch-returns-2 : (t : ℕ) → branch-lts.Need-returns-2 (
   least-reads.Asked,
   least-reads.Learnt,
   intersection-reads.Asked,
   intersection-reads.Learnt,
-  subset-reads.Asked,
-  subset-reads.Learnt,
-  lawful-reads.Asked,
-  lawful-reads.Learnt,
+  leaf-reads.Asked,
+  leaf-reads.Learnt,
+  lacking-reads.Asked,
+  lacking-reads.Learnt,
   wide-reads.Asked,
   wide-reads.Learnt,
   with-reads.Asked,
@@ -133,17 +115,17 @@ branch-returns-2 : (t : ℕ) → branch-lts.Need-returns-2 (
   branch-below t,
   branch.Post,
 ) (branch-at t) branch.Post
-branch-returns-2 t c = search (needs, not-true, found-lacks)
+branch-returns-2 t c = search (needs, found-leaf)
 
-branch-lawful-requires : (t : ℕ) → branch-lts.Need-lawful-requires (
+branch-lacking-requires : (t : ℕ) → branch-lts.Need-lacking-requires (
   least-reads.Asked,
   least-reads.Learnt,
   intersection-reads.Asked,
   intersection-reads.Learnt,
-  subset-reads.Asked,
-  subset-reads.Learnt,
-  lawful-reads.Asked,
-  lawful-reads.Learnt,
+  leaf-reads.Asked,
+  leaf-reads.Learnt,
+  lacking-reads.Asked,
+  lacking-reads.Learnt,
   wide-reads.Asked,
   wide-reads.Learnt,
   with-reads.Asked,
@@ -151,17 +133,17 @@ branch-lawful-requires : (t : ℕ) → branch-lts.Need-lawful-requires (
   branch-below t,
   branch.Post,
 ) (branch-at t) branch.Post
-branch-lawful-requires t c κs = search needs
+branch-lacking-requires t c κs = search needs
 
 branch-returns-3 : (t : ℕ) → branch-lts.Need-returns-3 (
   least-reads.Asked,
   least-reads.Learnt,
   intersection-reads.Asked,
   intersection-reads.Learnt,
-  subset-reads.Asked,
-  subset-reads.Learnt,
-  lawful-reads.Asked,
-  lawful-reads.Learnt,
+  leaf-reads.Asked,
+  leaf-reads.Learnt,
+  lacking-reads.Asked,
+  lacking-reads.Learnt,
   wide-reads.Asked,
   wide-reads.Learnt,
   with-reads.Asked,
@@ -169,35 +151,17 @@ branch-returns-3 : (t : ℕ) → branch-lts.Need-returns-3 (
   branch-below t,
   branch.Post,
 ) (branch-at t) branch.Post
-branch-returns-3 t c = search (needs, not-false, found-one)
-
-branch-returns-4 : (t : ℕ) → branch-lts.Need-returns-4 (
-  least-reads.Asked,
-  least-reads.Learnt,
-  intersection-reads.Asked,
-  intersection-reads.Learnt,
-  subset-reads.Asked,
-  subset-reads.Learnt,
-  lawful-reads.Asked,
-  lawful-reads.Learnt,
-  wide-reads.Asked,
-  wide-reads.Learnt,
-  with-reads.Asked,
-  with-reads.Learnt,
-  branch-below t,
-  branch.Post,
-) (branch-at t) branch.Post
-branch-returns-4 t c = search (needs, not-false, found-none)
+branch-returns-3 t c = search (needs, found-lacks)
 
 branch-element-copy-out-wide : (t : ℕ) → branch-lts.Need-element-copy-out-wide (
   least-reads.Asked,
   least-reads.Learnt,
   intersection-reads.Asked,
   intersection-reads.Learnt,
-  subset-reads.Asked,
-  subset-reads.Learnt,
-  lawful-reads.Asked,
-  lawful-reads.Learnt,
+  leaf-reads.Asked,
+  leaf-reads.Learnt,
+  lacking-reads.Asked,
+  lacking-reads.Learnt,
   wide-reads.Asked,
   wide-reads.Learnt,
   with-reads.Asked,
@@ -212,10 +176,10 @@ branch-wide-requires : (t : ℕ) → branch-lts.Need-wide-requires (
   least-reads.Learnt,
   intersection-reads.Asked,
   intersection-reads.Learnt,
-  subset-reads.Asked,
-  subset-reads.Learnt,
-  lawful-reads.Asked,
-  lawful-reads.Learnt,
+  leaf-reads.Asked,
+  leaf-reads.Learnt,
+  lacking-reads.Asked,
+  lacking-reads.Learnt,
   wide-reads.Asked,
   wide-reads.Learnt,
   with-reads.Asked,
@@ -230,10 +194,10 @@ branch-add-next : (t : ℕ) → branch-lts.Need-add-next (
   least-reads.Learnt,
   intersection-reads.Asked,
   intersection-reads.Learnt,
-  subset-reads.Asked,
-  subset-reads.Learnt,
-  lawful-reads.Asked,
-  lawful-reads.Learnt,
+  leaf-reads.Asked,
+  leaf-reads.Learnt,
+  lacking-reads.Asked,
+  lacking-reads.Learnt,
   wide-reads.Asked,
   wide-reads.Learnt,
   with-reads.Asked,
@@ -248,10 +212,10 @@ branch-with-requires : (t : ℕ) → branch-lts.Need-with-requires (
   least-reads.Learnt,
   intersection-reads.Asked,
   intersection-reads.Learnt,
-  subset-reads.Asked,
-  subset-reads.Learnt,
-  lawful-reads.Asked,
-  lawful-reads.Learnt,
+  leaf-reads.Asked,
+  leaf-reads.Learnt,
+  lacking-reads.Asked,
+  lacking-reads.Learnt,
   wide-reads.Asked,
   wide-reads.Learnt,
   with-reads.Asked,
@@ -266,10 +230,10 @@ branch-branch-requires : (t : ℕ) → branch-lts.Need-branch-requires (
   least-reads.Learnt,
   intersection-reads.Asked,
   intersection-reads.Learnt,
-  subset-reads.Asked,
-  subset-reads.Learnt,
-  lawful-reads.Asked,
-  lawful-reads.Learnt,
+  leaf-reads.Asked,
+  leaf-reads.Learnt,
+  lacking-reads.Asked,
+  lacking-reads.Learnt,
   wide-reads.Asked,
   wide-reads.Learnt,
   with-reads.Asked,
@@ -284,10 +248,10 @@ branch-with-requires-2 : (t : ℕ) → branch-lts.Need-with-requires-2 (
   least-reads.Learnt,
   intersection-reads.Asked,
   intersection-reads.Learnt,
-  subset-reads.Asked,
-  subset-reads.Learnt,
-  lawful-reads.Asked,
-  lawful-reads.Learnt,
+  leaf-reads.Asked,
+  leaf-reads.Learnt,
+  lacking-reads.Asked,
+  lacking-reads.Learnt,
   wide-reads.Asked,
   wide-reads.Learnt,
   with-reads.Asked,
@@ -302,10 +266,10 @@ branch-branch-requires-2 : (t : ℕ) → branch-lts.Need-branch-requires-2 (
   least-reads.Learnt,
   intersection-reads.Asked,
   intersection-reads.Learnt,
-  subset-reads.Asked,
-  subset-reads.Learnt,
-  lawful-reads.Asked,
-  lawful-reads.Learnt,
+  leaf-reads.Asked,
+  leaf-reads.Learnt,
+  lacking-reads.Asked,
+  lacking-reads.Learnt,
   wide-reads.Asked,
   wide-reads.Learnt,
   with-reads.Asked,
@@ -320,10 +284,10 @@ branch-add-result : (t : ℕ) → branch-lts.Need-add-result (
   least-reads.Learnt,
   intersection-reads.Asked,
   intersection-reads.Learnt,
-  subset-reads.Asked,
-  subset-reads.Learnt,
-  lawful-reads.Asked,
-  lawful-reads.Learnt,
+  leaf-reads.Asked,
+  leaf-reads.Learnt,
+  lacking-reads.Asked,
+  lacking-reads.Learnt,
   wide-reads.Asked,
   wide-reads.Learnt,
   with-reads.Asked,
@@ -331,17 +295,17 @@ branch-add-result : (t : ℕ) → branch-lts.Need-add-result (
   branch-below t,
   branch.Post,
 ) (branch-at t) branch.Post
-branch-add-result t c = omega (arith, few _ _ _ (c .before .before .before .before .before .before .before .before .before .before .before .before .before .pre .1 .3) (c .before .before .branch .ensures .small), few _ _ _ (c .before .before .before .before .before .before .before .before .before .before .before .before .before .pre .1 .3) (c .branch2 .ensures .small))
+branch-add-result t c = omega (arith, few _ _ _ (c .before .before .before .before .before .before .before .before .before .before .before .before .pre .1 .3) (c .before .before .branch .ensures .small), few _ _ _ (c .before .before .before .before .before .before .before .before .before .before .before .before .pre .1 .3) (c .branch2 .ensures .small))
 
-branch-returns-5 : (t : ℕ) → branch-lts.Need-returns-5 (
+branch-returns-4 : (t : ℕ) → branch-lts.Need-returns-4 (
   least-reads.Asked,
   least-reads.Learnt,
   intersection-reads.Asked,
   intersection-reads.Learnt,
-  subset-reads.Asked,
-  subset-reads.Learnt,
-  lawful-reads.Asked,
-  lawful-reads.Learnt,
+  leaf-reads.Asked,
+  leaf-reads.Learnt,
+  lacking-reads.Asked,
+  lacking-reads.Learnt,
   wide-reads.Asked,
   wide-reads.Learnt,
   with-reads.Asked,
@@ -349,7 +313,7 @@ branch-returns-5 : (t : ℕ) → branch-lts.Need-returns-5 (
   branch-below t,
   branch.Post,
 ) (branch-at t) branch.Post
-branch-returns-5 t c = search (needs, found-sum)
+branch-returns-4 t c = search (needs, found-sum)
 
 pub +branch-spec : {M : Type 1} → statement M
 +branch-spec = close μ-branch λ t. branch-lts.spec (
@@ -357,10 +321,10 @@ pub +branch-spec : {M : Type 1} → statement M
   least-reads.Learnt,
   intersection-reads.Asked,
   intersection-reads.Learnt,
-  subset-reads.Asked,
-  subset-reads.Learnt,
-  lawful-reads.Asked,
-  lawful-reads.Learnt,
+  leaf-reads.Asked,
+  leaf-reads.Learnt,
+  lacking-reads.Asked,
+  lacking-reads.Learnt,
   wide-reads.Asked,
   wide-reads.Learnt,
   with-reads.Asked,
@@ -373,12 +337,10 @@ pub +branch-spec : {M : Type 1} → statement M
     (branch-least-requires t)
     (branch-intersection-requires t)
     (branch-returns t)
-    (branch-least-requires-2 t)
-    (branch-subset-requires t)
+    (branch-leaf-requires t)
     (branch-returns-2 t)
-    (branch-lawful-requires t)
+    (branch-lacking-requires t)
     (branch-returns-3 t)
-    (branch-returns-4 t)
     (branch-element-copy-out-wide t)
     (branch-wide-requires t)
     (branch-add-next t)
@@ -387,4 +349,4 @@ pub +branch-spec : {M : Type 1} → statement M
     (branch-with-requires-2 t)
     (branch-branch-requires-2 t)
     (branch-add-result t)
-    (branch-returns-5 t)
+    (branch-returns-4 t)

@@ -7,10 +7,10 @@ use Rattle.counting.proofs.least.Statement.{statement}
 use Rattle.counting.proofs.least.Tie as tie
 
 abbrev Inv-loop : tie.InvT-loop
-Inv-loop heads pos neg gate k sure i o start x₀ next₀ x next = Running heads pos neg gate k sure i o start x next × (next < 18446744073709551616)
+Inv-loop heads pos neg gate back k sure i o start x₀ next₀ x next = Running heads pos neg gate k sure i o start x next × (next < 18446744073709551616)
 
 abbrev μ-loop : tie.MeasureT-loop
-μ-loop heads pos neg gate k sure i o start x₀ next₀ x next = 18446744073709551616 - x
+μ-loop heads pos neg gate back k sure i o start x₀ next₀ x next = 18446744073709551616 - x
 
 pass-requires : tie.Need-pass-requires Inv-loop μ-loop
 pass-requires c κs = search needs

@@ -1,16 +1,16 @@
 -- `counting::pass` meets its contract, one law for each way through it.
-use Prim.Native.Nat.{_-_}
+use Prim.Native.Nat.{_+_, _-_, _*_, _^_}
 use native.Mathlib.Omega.{arith}
 use borrow.Author.Needs.{needs}
-use Rattle.counting.proofs.Passes.{Passing, passing-start, passing-turn, passing-end}
+use Rattle.counting.proofs.Passes.{Passing, passing-start, passing-turn, pass-falls, passing-end}
 use Rattle.counting.proofs.pass.Statement.{statement}
 use Rattle.counting.proofs.pass.Tie as tie
 
 abbrev Inv-loop : tie.InvT-loop
-Inv-loop heads pos neg gate k sure i o l x₀ j₀ x j = Passing heads pos neg gate k sure i o l j x
+Inv-loop heads pos neg gate back k sure i o l x₀ j₀ x j = Passing heads pos neg gate k sure i o l j x
 
 abbrev μ-loop : tie.MeasureT-loop
-μ-loop heads pos neg gate k sure i o l x₀ j₀ x j = k - j
+μ-loop heads pos neg gate back k sure i o l x₀ j₀ x j = 129 * (2 ^ 64 - x) + (k - j)
 
 loop-holds : tie.Need-loop-holds Inv-loop μ-loop
 loop-holds c = search (needs, passing-start)
@@ -18,11 +18,14 @@ loop-holds c = search (needs, passing-start)
 fire-at-requires : tie.Need-fire-at-requires Inv-loop μ-loop
 fire-at-requires c κs = (omega arith, c .before .before .pre .1 .low (c .before .loop .j) (omega arith))
 
-add-j : tie.Need-add-j Inv-loop μ-loop
-add-j c = search needs
+element-copy-out-onward : tie.Need-element-copy-out-onward Inv-loop μ-loop
+element-copy-out-onward c = search needs
+
+onward-requires : tie.Need-onward-requires Inv-loop μ-loop
+onward-requires c κs = search needs
 
 loop-less : tie.Need-loop-less Inv-loop μ-loop
-loop-less c = search needs
+loop-less c = search (needs, pass-falls)
 
 loop-again : tie.Need-loop-again Inv-loop μ-loop
 loop-again c = search (needs, passing-turn)
@@ -33,4 +36,13 @@ returns c = search (needs, passing-end)
 pub pass-spec : {M : Type 1} → statement M
 pass-spec =
     tie.close
-    (tie.spec Inv-loop μ-loop loop-holds fire-at-requires add-j loop-less loop-again returns)
+    (tie.spec
+    Inv-loop
+    μ-loop
+    loop-holds
+    fire-at-requires
+    element-copy-out-onward
+    onward-requires
+    loop-less
+    loop-again
+    returns)

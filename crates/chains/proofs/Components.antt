@@ -1,0 +1,148 @@
+-- Laws of the chain question, component by component.
+use mathlib.Core.Bool.{Bool, true, false, _&&_}
+use mathlib.Core.List.{List, [], _∷_, List·Memᴰ·head, Sublistᴰ}
+use mathlib.Core.Path.{_≡_, refl, sym, _∙_, ap, subst}
+use Prim.Native.Nat.{ℕ, _+_, _≤_, _<_}
+use native.Mathlib.Omega.{arith}
+use borrow.Author.Tests.{eqb-true, eqb-false, eq-eqb, ltb-true, lt-ltb, leb-true}
+use lib.Dec.{eqb, ltb, leb}
+use lib.ListN.{length, getD}
+use Rattle.lists.specs.Lists.{below, filter, range}
+use Rattle.lists.proofs.Bools.{by-bool, true-false, is-false, and-intro, and-left, and-right}
+use Rattle.lists.proofs.Members.{all-at, below-at, below-in, filter-cong, filter-range, range-in, range-out}
+use Rattle.asp.specs.Program.{Program, wellFormed}
+use Rattle.unfolding.specs.Graph.{together, component}
+use Rattle.unfolding.specs.Chain.{Chain, passes}
+use Rattle.unfolding.specs.Default.{members}
+use Rattle.unfolding.proofs.Reach.{together-trans, together-sym, together-refl, together-below, component-together, component-smallest, component-same}
+use Rattle.unfolding.proofs.Chains.{passes-iff}
+use Rattle.bits.specs.Sets.{has}
+use Rattle.bits.specs.Listed.{Listing}
+use Rattle.bits.specs.declared.Atoms.{Atoms}
+use Rattle.bits.proofs.Listing.{listed-has, listed-place, listed-apart}
+use Rattle.sheet.specs.Sheet.{Record, Walk, recordsFrom, programOf}
+use Rattle.sheet.proofs.Walk.{walk-formed}
+use Rattle.components.specs.Table.{Holds, links, NamesOf, named, componentsFit}
+use Rattle.components.proofs.Components.{links-edges, named-members}
+use Rattle.chains.specs.Table.{Setting, Tested, Members, Graph, ComponentTested}
+
+-- A component's atoms, as a set.
+module _ (names : List ℕ) (n c x : ℕ) (M : Members names n c x) where
+  member-low : (a : ℕ) → has x a ≡ true → a < n
+  member-low a t = ltb-true a n (and-left (ltb a n) (eqb (getD names a 0) c) (sym (M .members a) ∙ t))
+
+  pub members-named : n ≤ 64 → filter (has x) (range 0 64) ≡ named names c n
+  unfolding named
+  members-named l =
+      filter-range (has x) n 64 l member-low
+      ∙ filter-cong (has x) (λ a. eqb (getD names a 0) c) (range 0 n) (λ a m. let r = range-out 0 n a m in M .members a ∙ ap (λ (b : Bool). b && eqb (getD names a 0) c) (lt-ltb a n (omega (arith, r .high))))
+
+  pub members-few : n ≤ 64 → length (named names c n) ≤ 10 → length (filter (has x) (range 0 64)) ≤ 16
+  members-few l s = let e = ap length (members-named l) in omega arith
+
+  module _ (L : Atoms) (S : Listing x L 64) (low : n ≤ 64) where
+    pub places-few : length (named names c n) ≤ 10 → L .t ≤ 10
+    places-few s = let e = ap length (members-named low) in let f = S .size in omega arith
+
+    module _ (P : Program) (rows : List ℕ) (G : Graph P n rows names) where
+      abbrev atom : ℕ → ℕ
+      atom p = getD (L .atoms) p 0
+
+      atom-low : (p : ℕ) → p < L .t → atom p < P .atoms
+      atom-low p l = subst (λ k. atom p < k) (sym (G .size)) (member-low (atom p) (listed-has x L S p l))
+
+      atom-named : (p : ℕ) → p < L .t → component P (atom p) ≡ c
+      atom-named p l =
+          sym (G .named .name (atom p) (atom-low p l)) ∙ eqb-true (getD names (atom p) 0) c (and-right (ltb (atom p) n) (eqb (getD names (atom p) 0) c) (sym (M .members (atom p)) ∙ listed-has x L S p l))
+
+      named-place : (a : ℕ) → a < P .atoms → component P a ≡ c → (p : ℕ) × (p < L .t) × (atom p ≡ a)
+      named-place a l e =
+          let h = G .size in
+          listed-place x L S a (omega arith) (M .members a ∙ and-intro (lt-ltb a n (omega arith)) (eq-eqb (getD names a 0) c (G .named .name a l ∙ e)))
+
+      setting : Setting P rows (L .atoms) (L .t)
+      setting =
+          record {
+            formed = G .formed;
+            edges = G .edges;
+            low = atom-low;
+            apart = listed-apart x L S;
+            joined = λ p q l m.
+                let a = component-together P (G .formed) (atom p) (atom-low p l) in
+                let b = component-together P (G .formed) (atom q) (atom-low q m) in
+                together-trans P (G .formed) (atom p) (component P (atom p)) (atom q) (atom-low p l) a
+                (subst (λ d. together P d (atom q) ≡ true) (atom-named q m ∙ sym (atom-named p l)) (together-sym P (G .formed) (atom q) (component P (atom q)) b));
+            whole = λ p l b t. named-place b (below-one p l b t) (sym (component-same P (G .formed) (atom p) b (atom-low p l) t) ∙ atom-named p l);
+          }
+        where
+          below-one : (p : ℕ) → p < L .t → (b : ℕ) → together P (atom p) b ≡ true → b < P .atoms
+          below-one p l b t = together-below P (G .formed) (atom p) b (atom-low p l) t
+
+      pub component-tested : (s : List ℕ) (r : Bool) → Tested rows (L .atoms) (L .t) s r → ComponentTested P c s r
+      component-tested s r T = record { is = (there, back) }
+        where
+          there : r ≡ true → (a : ℕ) (w : List ℕ) → Chain P (a ∷ w) → component P a ≡ c → Sublistᴰ (a ∷ w) s
+          there t a w C e =
+              let u = named-place a (below-at (P .atoms) (a ∷ w) (C .atoms) a (List·Memᴰ·head refl)) e in
+              subst (λ b. Sublistᴰ (b ∷ w) s) (u .2) (T .is P setting .0 t (u .0) (u .1) w (subst (λ b. Chain P (b ∷ w)) (sym (u .2)) C))
+
+          back : ((a : ℕ) (w : List ℕ) → Chain P (a ∷ w) → component P a ≡ c → Sublistᴰ (a ∷ w) s) → r ≡ true
+          back h = T .is P setting .1 (λ p l w C. h (atom p) w C (atom-named p l))
+
+-- The components named below c.
+pub record Sofar (P : Program) (s : List ℕ) (c : ℕ) : Type 0 where
+  pub found : (a : ℕ) (w : List ℕ) → Chain P (a ∷ w) → component P a < c → Sublistᴰ (a ∷ w) s
+
+module _ (P : Program) (wf : wellFormed P ≡ true) (s : List ℕ) where
+  sofar-start : Sofar P s 0
+  sofar-start = record { found = λ a w C l. absurd (omega arith) }
+
+  sofar-turn : (c : ℕ) (b : Bool) → Sofar P s c → ComponentTested P c s b → b ≡ true → Sofar P s (c + 1)
+  sofar-turn c b F K t =
+      record { found = λ a w C l. by-bool (eqb (component P a) c) (λ q. K .is .0 t a w C (eqb-true (component P a) c q)) (λ q. let ne = eqb-false (component P a) c q in F .found a w C (omega arith)) }
+
+  sofar-fails : (c : ℕ) (b : Bool) → ComponentTested P c s b → b ≡ false → false ≡ passes P s
+  sofar-fails c b K f = sym (is-false (λ t. true-false (K .is .1 (λ a w C e. passes-iff P wf s .0 t (a ∷ w) C)) f))
+
+  sofar-end : (c : ℕ) → Sofar P s c → P .atoms ≤ c → true ≡ passes P s
+  sofar-end c F l =
+      sym (passes-iff P wf s .1 found)
+    where
+      found : (w : List ℕ) → Chain P w → Sublistᴰ w s
+      found [] C = absurd (C .some refl)
+      found (a ∷ w) C =
+          let low = below-at (P .atoms) (a ∷ w) (C .atoms) a (List·Memᴰ·head refl) in
+          let m = component-smallest P wf a a low (together-refl P wf a low) in
+          F .found a w C (omega arith)
+
+-- The same for the records of a sheet.
+module _ (s : List ℕ) (n m : ℕ) (W : Walk s n m 5) (entries : List ℕ) where
+  pub passes-start : Sofar (programOf n (recordsFrom m s 5)) entries 0
+  passes-start = sofar-start (programOf n (recordsFrom m s 5)) (walk-formed s n m W) entries
+
+  module _ (rows names : List ℕ) (H : Holds n (links (recordsFrom m s 5)) rows) (N : NamesOf (programOf n (recordsFrom m s 5)) names) where
+    graph : Graph (programOf n (recordsFrom m s 5)) n rows names
+    unfolding programOf
+    graph = record { formed = walk-formed s n m W; size = refl; edges = λ a l b. H .bits a l b ∙ links-edges n (recordsFrom m s 5) a b; named = N }
+
+    module _ (c : ℕ) (b : Bool) (K : (P : Program) → Graph P n rows names → ComponentTested P c entries b) where
+      pub passes-turn : Sofar (programOf n (recordsFrom m s 5)) entries c → b ≡ true → Sofar (programOf n (recordsFrom m s 5)) entries (c + 1)
+      passes-turn F = sofar-turn (programOf n (recordsFrom m s 5)) (walk-formed s n m W) entries c b F (K (programOf n (recordsFrom m s 5)) graph)
+
+      pub passes-fails : b ≡ false → false ≡ passes (programOf n (recordsFrom m s 5)) entries
+      passes-fails = sofar-fails (programOf n (recordsFrom m s 5)) (walk-formed s n m W) entries c b (K (programOf n (recordsFrom m s 5)) graph)
+
+  pub passes-end : (c : ℕ) → Sofar (programOf n (recordsFrom m s 5)) entries c → n ≤ c → true ≡ passes (programOf n (recordsFrom m s 5)) entries
+  unfolding programOf
+  passes-end c F l = sofar-end (programOf n (recordsFrom m s 5)) (walk-formed s n m W) entries c F l
+
+-- What the code asks on the way.
+pub component-few : (n : ℕ) (rs : List Record) (names : List ℕ) (c : ℕ) → NamesOf (programOf n rs) names → componentsFit 10 (programOf n rs) ≡ true → c < n → length (named names c n) ≤ 10
+unfolding componentsFit programOf
+component-few n rs names c N F l =
+    let fits = leb-true (length (members (programOf n rs) c)) 10 (all-at (λ c. leb (length (members (programOf n rs) c)) 10) (range 0 n) F c (range-in 0 n c (omega arith) (omega arith))) in
+    let same = ap length (named-members (programOf n rs) names N c) in
+    omega arith
+
+pub below-64 : (n : ℕ) (l : List ℕ) → n ≤ 64 → below n l ≡ true → below 64 l ≡ true
+below-64 n l h e = below-in 64 l (λ a m. let k = below-at n l e a m in omega arith)

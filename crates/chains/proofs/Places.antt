@@ -1,0 +1,114 @@
+-- Laws of places: the set of places that an atom has edges to, an atom's own place, and the atoms of a component.
+use mathlib.Core.Bool.{Bool, true, false, _&&_, _||_}
+use mathlib.Core.List.{List}
+use mathlib.Core.Path.{_≡_, refl, sym, _∙_, ap, subst}
+use Prim.Native.Nat.{ℕ, _+_, _*_, _%_, _^_, _≤_, _<_}
+use native.Mathlib.Nat.{one-mul}
+use native.Mathlib.Omega.{arith}
+use borrow.Author.Tests.{eqb-true, eqb-false, eq-eqb, ne-eqb, lt-ltb, le-ltb, ltb-true}
+use lib.Dec.{eqb, ltb}
+use lib.ListN.{getD}
+use lib.Pow.{pow-mono, pow-pos, shl-exact}
+use Rattle.lists.proofs.Bools.{by-bool, bool-ext}
+use Rattle.bits.specs.Sets.{has, With}
+use Rattle.bits.specs.Listed.{Low}
+use Rattle.bits.proofs.Digits.{zero-has}
+use Rattle.chains.specs.Table.{WithIf, Followers, PlaceOf, Power, Members}
+
+joins : (x e : Bool) → (e || x) ≡ (x || e && true)
+joins true true = refl
+joins true false = refl
+joins false true = refl
+joins false false = refl
+
+skips : (x e : Bool) → x ≡ (x || e && false)
+skips true e = refl
+skips false true = refl
+skips false false = refl
+
+module _ (x a : ℕ) (b : Bool) where
+  pub with-yes : (r : ℕ) → b ≡ true → With x a r → WithIf x a b r
+  with-yes r t W = record { members = λ p. W .members p ∙ (joins (has x p) (eqb p a) ∙ ap (λ (y : Bool). has x p || eqb p a && y) (sym t)) }
+
+  pub with-no : b ≡ false → WithIf x a b x
+  with-no f = record { members = λ p. skips (has x p) (eqb p a) ∙ ap (λ (y : Bool). has x p || eqb p a && y) (sym f) }
+
+-- The numbers below p of which the test holds.
+pub record Picking (t : ℕ → Bool) (p set : ℕ) : Type 0 where
+  pub members : (q : ℕ) → has set q ≡ (ltb q p && t q)
+
+module _ (t : ℕ → Bool) where
+  picking-start : Picking t 0 0
+  picking-start = record { members = λ q. zero-has q ∙ ap (λ (y : Bool). y && t q) (sym (le-ltb q 0 (omega arith))) }
+
+  picking-turn : (p set new : ℕ) (b : Bool) → Picking t p set → b ≡ t p → WithIf set p b new → Picking t (p + 1) new
+  picking-turn p set new b F e W =
+      record { members = λ q. W .members q ∙ by-bool (eqb q p) (λ y. here q (eqb-true q p y)) (λ y. there q (eqb-false q p y)) }
+    where
+      here : (q : ℕ) → q ≡ p → (has set q || eqb q p && b) ≡ (ltb q (p + 1) && t q)
+      here q g = rw (F .members q, le-ltb q p (omega arith), eq-eqb q p g, lt-ltb q (p + 1) (omega arith)) (e ∙ ap t (sym g))
+
+      there : (q : ℕ) → (q ≡ p → ⊥) → (has set q || eqb q p && b) ≡ (ltb q (p + 1) && t q)
+      there q ne =
+          rw (ne-eqb q p ne, F .members q)
+          (sym (skips (ltb q p && t q) false)
+          ∙ ap (λ (y : Bool). y && t q) (bool-ext (λ y. lt-ltb q (p + 1) (let l = ltb-true q p y in omega arith)) (λ y. lt-ltb q p (let l = ltb-true q (p + 1) y in omega arith))))
+
+  picked : (p k set : ℕ) → Picking t p set → p ≤ k → k ≤ p → (q : ℕ) → has set q ≡ (ltb q k && t q)
+  picked p k set F l m q = F .members q ∙ ap (λ i. ltb q i && t q) (let e : p ≡ k = omega arith in e)
+
+-- The places that x has edges to.
+abbrev pub Following : List ℕ → List ℕ → ℕ → ℕ → ℕ → Type 0
+Following rows atoms x = Picking (λ q. has (getD rows (getD atoms q 0) 0) x)
+
+module _ (rows atoms : List ℕ) (k x : ℕ) where
+  pub following-start : Following rows atoms x 0 0
+  following-start = picking-start (λ q. has (getD rows (getD atoms q 0) 0) x)
+
+  pub following-turn : (p set a new : ℕ) (b : Bool) → Following rows atoms x p set → a ≡ getD atoms p 0 → b ≡ has (getD rows a 0) x → WithIf set p b new → Following rows atoms x (p + 1) new
+  following-turn p set a new b F e f = picking-turn (λ q. has (getD rows (getD atoms q 0) 0) x) p set new b F (f ∙ ap (λ n. has (getD rows n 0) x) e)
+
+  pub following-end : (p set : ℕ) → Following rows atoms x p set → p ≤ k → k ≤ p → Followers rows atoms k x set
+  following-end p set F l m = record { members = picked (λ q. has (getD rows (getD atoms q 0) 0) x) p k set F l m }
+
+  pub atom-low : (p a : ℕ) → Low atoms k → p < k → a ≡ getD atoms p 0 → a < 64
+  atom-low p a L l e = subst (λ n. n < 64) (sym e) (L .low p l)
+
+-- The atom is at none of the places below p.
+pub record Missing (atoms : List ℕ) (x p : ℕ) : Type 0 where
+  pub none : (q : ℕ) → q < p → getD atoms q 0 ≡ x → ⊥
+
+module _ (atoms : List ℕ) (k x : ℕ) where
+  pub missing-start : Missing atoms x 0
+  missing-start = record { none = λ q l. absurd (omega arith) }
+
+  pub missing-turn : (p a : ℕ) → Missing atoms x p → a ≡ getD atoms p 0 → (a ≡ x → ⊥) → Missing atoms x (p + 1)
+  missing-turn p a M e ne =
+      record { none = λ q l. by-bool (eqb q p) (λ t g. ne (e ∙ (ap (λ n. getD atoms n 0) (sym (eqb-true q p t)) ∙ g))) (λ t. let d = eqb-false q p t in M .none q (omega arith)) }
+
+  pub place-found : (p a : ℕ) → p < k → a ≡ getD atoms p 0 → a ≡ x → PlaceOf atoms k x p
+  place-found p a l e g = record { found = λ _. sym e ∙ g; missing = λ m. absurd (omega arith) }
+
+  pub place-missing : (p : ℕ) → Missing atoms x p → k ≤ p → PlaceOf atoms k x k
+  place-missing p M l = record { found = λ m. absurd (omega arith); missing = λ _ q m. M .none q (omega arith) }
+
+pub power-is : (k : ℕ) → k ≤ 10 → Power k (1 * 2 ^ k % 2 ^ 64)
+power-is k l =
+    let few = pow-mono {i = k} {j = 10} l in
+    let e : 1 * 2 ^ k % 2 ^ 64 ≡ 2 ^ k = shl-exact {a = 1} 1 k 64 (omega arith) (omega arith) ∙ one-mul (2 ^ k) in
+    let one = pow-pos k in
+    record { is = e; some = omega arith; small = omega arith }
+
+-- The atoms of a component.
+abbrev pub Naming : List ℕ → ℕ → ℕ → ℕ → Type 0
+Naming names c = Picking (λ a. eqb (getD names a 0) c)
+
+module _ (names : List ℕ) (n c : ℕ) where
+  pub naming-start : Naming names c 0 0
+  naming-start = picking-start (λ a. eqb (getD names a 0) c)
+
+  pub naming-turn : (a x d new : ℕ) → Naming names c a x → d ≡ getD names a 0 → WithIf x a (eqb d c) new → Naming names c (a + 1) new
+  naming-turn a x d new F e = picking-turn (λ a. eqb (getD names a 0) c) a x new (eqb d c) F (ap (λ y. eqb y c) e)
+
+  pub naming-end : (a x : ℕ) → Naming names c a x → a ≤ n → n ≤ a → Members names n c x
+  naming-end a x F l m = record { members = picked (λ a. eqb (getD names a 0) c) a n x F l m }

@@ -1,0 +1,212 @@
+-- Laws of the table: an entry more, and what the table says in the end.
+use mathlib.Core.Bool.{Bool, true, false, not, _&&_, _||_}
+use mathlib.Core.List.{List, [], _∷_, List·Memᴰ, List·Memᴰ·head, Sublistᴰ, Sublistᴰ·cons, Sublistᴰ·refl}
+use mathlib.Core.Logic.{_↔_, ⊎-elim}
+use mathlib.Core.Path.{_≡_, refl, sym, _∙_, ap, subst}
+use Prim.Native.Nat.{ℕ, zero, suc, _+_, _-_, _^_, _≤_, _<_}
+use native.Mathlib.Omega.{arith}
+use borrow.Author.Tests.{eqb-true, eqb-false, eq-eqb, ne-eqb, lt-ltb, ltb-true}
+use lib.Dec.{eqb, ltb}
+use lib.ListN.{length, getD, drop, replicate, length-replicate, getD-replicate}
+use lib.Pow.{pow-pos, pow-mono}
+use lib.Seq.{drop-cons, drop-drop, drop-length}
+use Rattle.lists.specs.Lists.{below}
+use Rattle.lists.proofs.Bools.{by-bool, true-false, and-intro, and-left, and-right, or-cases, or-right, not-intro, not-elim}
+use Rattle.lists.proofs.Members.{below-at, below-in}
+use Rattle.lists.proofs.Sublists.{mem-sublist}
+use Rattle.asp.specs.Program.{Program}
+use Rattle.unfolding.specs.Graph.{edge, together}
+use Rattle.unfolding.specs.Chain.{Chain}
+use Rattle.unfolding.proofs.Chains.{component-at}
+use Rattle.unfolding.proofs.Starting.{Started, started-none, started-more, started-other, started-onward, started-own}
+use Rattle.bits.specs.Sets.{has, ByteAt, Subset}
+use Rattle.bits.proofs.Digits.{zero-has, full-has}
+use Rattle.chains.specs.Table.{Setting, AtPlaces, Table, RowAfter, TableAfter, Followers, PlaceOf, Power, Entered, Tested}
+
+module _ (P : Program) (rows atoms : List ℕ) (k : ℕ) (K : Setting P rows atoms k) where
+  abbrev atom : ℕ → ℕ
+  atom p = getD atoms p 0
+
+  -- Before the first entry nothing is found.
+  pub table-start : (sets : List ℕ) → ((S : ℕ) → S < 2 ^ k → getD sets S 0 ≡ 0) → Table P atoms k sets []
+  table-start sets z =
+      record {
+        right = λ S l p m e. (
+          λ t. absurd (true-false t (ap (λ n. has n p) (z S l) ∙ zero-has p)),
+          λ D. absurd (started-none P (K .formed) (AtPlaces atoms k S) (atom p) (K .low p m) (p, m, refl, e) D),
+        );
+      }
+
+  -- An entry of another atom.
+  pub table-other : (sets s : List ℕ) (x : ℕ) → ((q : ℕ) → q < k → getD atoms q 0 ≡ x → ⊥) → Table P atoms k sets s → Table P atoms k sets (x ∷ s)
+  table-other sets s x none T =
+      record {
+        right = λ S l p m e. (
+          λ t. started-more P (K .formed) x s (AtPlaces atoms k S) (atom p) (T .right S l p m e .0 t),
+          λ D. T .right S l p m e .1 (started-other P (K .formed) x s (AtPlaces atoms k S) (atom p) (λ q. none p m (sym q)) D),
+        );
+      }
+
+  -- An entry of the atom at place i.
+  module _ (old new s : List ℕ) (x i after size : ℕ) (low : i < k) (is : getD atoms i 0 ≡ x) (F : Followers rows atoms k x after) (N : Power k size)
+      (A : TableAfter old size i after new) (T : Table P atoms k old s) where
+    follows : (q : ℕ) → q < k → edge P x (atom q) ≡ true → has after q ≡ true
+    follows q l e = F .members q ∙ and-intro (lt-ltb q k l) (K .edges (atom q) (K .low q l) x ∙ e)
+
+    followed : (q : ℕ) → has after q ≡ true → (q < k) × (edge P x (atom q) ≡ true)
+    followed q t =
+        let u = sym (F .members q) ∙ t in
+        let l = ltb-true q k (and-left (ltb q k) (has (getD rows (atom q) 0) x) u) in
+        (l, sym (K .edges (atom q) (K .low q l) x) ∙ and-right (ltb q k) (has (getD rows (atom q) 0) x) u)
+
+    x-joined : (q : ℕ) → q < k → together P x (atom q) ≡ true
+    x-joined q l = subst (λ y. together P y (atom q) ≡ true) is (K .joined i q low l)
+
+    module _ (S : ℕ) (l : S < 2 ^ k) where
+      abbrev R : RowAfter old S i after (getD new S 0)
+      R = A .rows S (let e = N .is in omega arith)
+
+      abbrev W : ℕ
+      W = R .less
+
+      w-low : W < 2 ^ k
+      w-low = let f = R .falls in omega arith
+
+      w-out : (q : ℕ) → has W q ≡ true → (has S q ≡ true) × (q ≡ i → ⊥)
+      w-out q t =
+          let u = sym (R .without q) ∙ t in
+          (and-left (has S q) (not (eqb q i)) u, λ e. true-false (eq-eqb q i e) (not-elim (and-right (has S q) (not (eqb q i)) u)))
+
+      w-in : (q : ℕ) → has S q ≡ true → (q ≡ i → ⊥) → has W q ≡ true
+      w-in q t ne = R .without q ∙ and-intro t (not-intro (ne-eqb q i ne))
+
+      -- At place i itself.
+      module _ (e : has S i ≡ true) where
+        less : (b : ℕ) → AtPlaces atoms k W b → AtPlaces atoms k S b × (b ≡ x → ⊥)
+        less b u = let o = w-out (u .0) (u .3) in ((u .0, u .1, u .2, o .0), λ f. o .1 (K .apart (u .0) i (u .1) low (u .2 ∙ (f ∙ sym is))))
+
+        more : (b : ℕ) → AtPlaces atoms k S b → (b ≡ x → ⊥) → AtPlaces atoms k W b
+        more b u ne = (u .0, u .1, u .2, w-in (u .0) (u .3) (λ f. ne (sym (u .2) ∙ (ap atom f ∙ is))))
+
+        own-found : has (getD new S 0) i ≡ true → Started P (x ∷ s) (AtPlaces atoms k S) x
+        own-found t =
+            ⊎-elim (λ u. started-more P (K .formed) x s (AtPlaces atoms k S) x (subst (Started P s (AtPlaces atoms k S)) is (T .right S l i low e .0 u)))
+            (λ u. let c = and-right (has S i) (R .covered) (and-right (eqb i i) (has S i && R .covered) u) in
+            started-own P (K .formed) x s (AtPlaces atoms k S) (AtPlaces atoms k W) more
+            (λ b g h u. subst (Started P s (AtPlaces atoms k W)) (u .2)
+            (T .right W w-low (u .0) (u .1) (u .3) .0 (R .asked e .0 c (u .0) (follows (u .0) (u .1) (subst (λ y. edge P x y ≡ true) (sym (u .2)) g)) (u .3)))))
+            (or-cases (has (getD old S 0) i) (eqb i i && (has S i && R .covered)) (sym (R .members i) ∙ t))
+
+        own-in : Started P (x ∷ s) (AtPlaces atoms k S) x → has (getD new S 0) i ≡ true
+        own-in D =
+            let c = R .asked e .1 (λ q g h. let f = followed q g in
+            T .right W w-low q (f .0) h .1
+            (started-onward P (K .formed) x s (AtPlaces atoms k S) (AtPlaces atoms k W) (subst (λ y. y < P .atoms) is (K .low i low)) (i, low, is, e) less D (atom q) (f .1) (x-joined q (f .0)))) in
+            R .members i ∙ or-right (has (getD old S 0) i) (and-intro (eq-eqb i i refl) (and-intro e c))
+
+      -- At another place.
+      module _ (p : ℕ) (m : p < k) (ne : p ≡ i → ⊥) where
+        kept : has (getD new S 0) p ≡ has (getD old S 0) p
+        kept = R .members p ∙ (ap (λ (y : Bool). has (getD old S 0) p || y && (has S i && R .covered)) (ne-eqb p i ne) ∙ no-more (has (getD old S 0) p))
+          where
+            no-more : (y : Bool) → (y || false) ≡ y
+            no-more true = refl
+            no-more false = refl
+
+        differs : x ≡ atom p → ⊥
+        differs f = ne (K .apart p i m low (sym f ∙ sym is))
+
+    pub table-own : Table P atoms k new (x ∷ s)
+    table-own =
+        record {
+          right = λ S l p m e. by-bool (eqb p i) (λ t. here S l p m e (eqb-true p i t)) (λ t. there S l p m e (eqb-false p i t));
+        }
+      where
+        here : (S : ℕ) → S < 2 ^ k → (p : ℕ) → p < k → has S p ≡ true → p ≡ i → (has (getD new S 0) p ≡ true) ↔ Started P (x ∷ s) (AtPlaces atoms k S) (atom p)
+        here S l p m e q =
+            let f : has S i ≡ true = ap (has S) (sym q) ∙ e in
+            let a : atom p ≡ x = ap atom q ∙ is in (
+              λ t. subst (Started P (x ∷ s) (AtPlaces atoms k S)) (sym a) (own-found S l f (ap (has (getD new S 0)) (sym q) ∙ t)),
+              λ D. ap (has (getD new S 0)) q ∙ own-in S l f (subst (Started P (x ∷ s) (AtPlaces atoms k S)) a D),
+            )
+
+        there : (S : ℕ) → S < 2 ^ k → (p : ℕ) → p < k → has S p ≡ true → (p ≡ i → ⊥) → (has (getD new S 0) p ≡ true) ↔ Started P (x ∷ s) (AtPlaces atoms k S) (atom p)
+        there S l p m e ne = (
+          λ t. started-more P (K .formed) x s (AtPlaces atoms k S) (atom p) (T .right S l p m e .0 (sym (kept S l p m ne) ∙ t)),
+          λ D. kept S l p m ne ∙ T .right S l p m e .1 (started-other P (K .formed) x s (AtPlaces atoms k S) (atom p) (differs S l p m ne) D),
+        )
+
+module _ (rows atoms : List ℕ) (k x p : ℕ) (N : PlaceOf atoms k x p) where
+  pub entered-own : (old new : List ℕ) (after size : ℕ) → p < k → Followers rows atoms k x after → Power k size → TableAfter old size p after new → Entered rows atoms k x old new
+  entered-own old new after size l F E A =
+      record { long = A .long; turns = λ P s K T. table-own P rows atoms k K old new s x p after size l (N .found l) F E A T }
+
+  pub entered-other : (old : List ℕ) → k ≤ p → Entered rows atoms k x old old
+  entered-other old l = record { long = refl; turns = λ P s K T. table-other P rows atoms k K old s x (N .missing l) T }
+
+-- The entries from i on are read.
+pub record Reading (rows atoms : List ℕ) (k : ℕ) (q : List ℕ) (i : ℕ) (sets : List ℕ) : Type 0 where
+  pub long : length sets ≡ 1024
+  pub start : 3 ≤ i
+  pub inside : i ≤ length q
+  pub table : (P : Program) → Setting P rows atoms k → Table P atoms k sets (drop i q)
+
+module _ (rows atoms : List ℕ) (k : ℕ) (few : k ≤ 10) (q : List ℕ) where
+  pub reading-start : 3 ≤ length q → Reading rows atoms k q (length q) (replicate 1024 0)
+  reading-start l =
+      record {
+        long = length-replicate {A = ℕ} 1024 0;
+        start = l;
+        inside = omega arith;
+        table = λ P K. subst (Table P atoms k (replicate 1024 0)) (sym (drop-length q)) (table-start P rows atoms k K (replicate 1024 0)
+            (λ S m. getD-replicate {A = ℕ} 1024 S 0 0 (let e = pow-mono {i = k} {j = 10} few in omega arith)));
+      }
+
+  pub reading-turn : (i x : ℕ) (old new : List ℕ) → Reading rows atoms k q i old → 3 < i → ByteAt q (i - 1) x → Entered rows atoms k x old new → Reading rows atoms k q (i - 1) new
+  reading-turn i x old new R l B E =
+      let h = R .inside in
+      record {
+        long = E .long ∙ R .long;
+        start = omega arith;
+        inside = omega arith;
+        table = λ P K. subst (Table P atoms k new) (ap (λ y. y ∷ drop i q) (B .is) ∙ (ap (λ j. getD q (i - 1) 0 ∷ drop j q) (let e : i ≡ suc (i - 1) = omega arith in e) ∙ sym (drop-cons q (i - 1) 0 (omega arith))))
+            (E .turns P (drop i q) K (R .table P K));
+      }
+
+  pub reading-end : (i size : ℕ) (sets : List ℕ) (b : Bool) → Reading rows atoms k q i sets → i ≤ 3 → Power k size → Subset (size - 1) (getD sets (size - 1) 0) b → Tested rows atoms k (drop 3 q) b
+  reading-end i size sets b R l N S =
+      record { is = λ P K. (found P K, all-found P K) }
+    where
+      all-in : (p : ℕ) → has (size - 1) p ≡ ltb p k
+      all-in p = ap (λ n. has (n - 1) p) (N .is) ∙ full-has k p
+
+      full-low : size - 1 < 2 ^ k
+      full-low = let e = N .is in let h = pow-pos k in omega arith
+
+      table : (P : Program) → Setting P rows atoms k → Table P atoms k sets (drop 3 q)
+      table P K = subst (λ j. Table P atoms k sets (drop j q)) (let h = R .start in let e : i ≡ 3 = omega arith in e) (R .table P K)
+
+      found : (P : Program) → Setting P rows atoms k → b ≡ true → (p : ℕ) → p < k → (w : List ℕ) → Chain P (getD atoms p 0 ∷ w) → Sublistᴰ (getD atoms p 0 ∷ w) (drop 3 q)
+      found P K t p m w C =
+          let here = all-in p ∙ lt-ltb p k m in
+          table P K .right (size - 1) full-low p m here .0 (S .inside t p here) w C
+          (λ y n. let u = K .whole p m y (component-at P (getD atoms p 0 ∷ w) C (getD atoms p 0) y (List·Memᴰ·head refl) n) in
+          (u .0, u .1, u .2, all-in (u .0) ∙ lt-ltb (u .0) k (u .1)))
+
+      all-found : (P : Program) → Setting P rows atoms k → ((p : ℕ) → p < k → (w : List ℕ) → Chain P (getD atoms p 0 ∷ w) → Sublistᴰ (getD atoms p 0 ∷ w) (drop 3 q)) → b ≡ true
+      all-found P K h =
+          S .all-inside (λ p t. let m = ltb-true p k (sym (all-in p) ∙ t) in table P K .right (size - 1) full-low p m t .1 (λ w C _. h p m w C))
+
+-- What the code asks on the way.
+pub entry-low : (q : List ℕ) (j x : ℕ) → below 64 (drop 3 q) ≡ true → 3 ≤ j → j < length q → ByteAt q j x → x < 64
+entry-low q j x h l m B =
+    subst (λ y. y < 64) (sym (B .is))
+    (below-at 64 (drop j q) (below-in 64 (drop j q) (λ a n. below-at 64 (drop 3 q) h a (mem-sublist later n))) (getD q j 0) (subst (List·Memᴰ (getD q j 0)) (sym (drop-cons q j 0 m)) (List·Memᴰ·head refl)))
+  where
+    shorter : (k : ℕ) (l : List ℕ) → Sublistᴰ (drop k l) l
+    shorter zero l = Sublistᴰ·refl l
+    shorter (suc k) [] = Sublistᴰ·refl []
+    shorter (suc k) (y ∷ l) = Sublistᴰ·cons (shorter k l)
+
+    later : Sublistᴰ (drop j q) (drop 3 q)
+    later = subst (λ d. Sublistᴰ d (drop 3 q)) (drop-drop (j - 3) 3 q ∙ ap (λ i. drop i q) (let e : 3 + (j - 3) ≡ j = omega arith in e)) (shorter (j - 3) (drop 3 q))

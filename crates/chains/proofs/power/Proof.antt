@@ -1,0 +1,15 @@
+-- `chains::power` meets its contract, one law for each way through it.
+use native.Mathlib.Omega.{arith}
+use borrow.Author.Needs.{needs}
+use Rattle.chains.proofs.Places.{power-is}
+use Rattle.chains.proofs.power.Statement.{statement}
+use Rattle.chains.proofs.power.Tie as tie
+
+shl-result : tie.Need-shl-result
+shl-result c = search needs
+
+returns : tie.Need-returns
+returns c = power-is _ (omega arith)
+
+pub power-spec : {M : Type 1} → statement M
+power-spec = tie.close (tie.spec shl-result returns)

@@ -1,0 +1,56 @@
+-- `chains::step` meets its contract, one law for each way through it.
+use mathlib.Core.Path.{_≡_}
+use Prim.Native.Nat.{_-_}
+use native.Mathlib.Omega.{arith}
+use borrow.Author.Needs.{needs}
+use lib.ListN.{length}
+use Rattle.chains.proofs.Rows.{Stepping, stepping-start, stepping-turn, stepping-end}
+use Rattle.chains.proofs.step.Statement.{statement}
+use Rattle.chains.proofs.step.Tie as tie
+
+abbrev Inv-loop : tie.InvT-loop
+Inv-loop sets₀ size i after set₀ sets set = Stepping sets₀ i after set sets × (length sets₀ ≡ 1024)
+
+abbrev μ-loop : tie.MeasureT-loop
+μ-loop sets₀ size i after set₀ sets set = size - set
+
+loop-holds : tie.Need-loop-holds Inv-loop μ-loop
+loop-holds c = search (needs, stepping-start)
+
+row-after-requires : tie.Need-row-after-requires Inv-loop μ-loop
+row-after-requires c κs = search needs
+
+mul-sets : tie.Need-mul-sets Inv-loop μ-loop
+mul-sets c = search needs
+
+element-write-sets : tie.Need-element-write-sets Inv-loop μ-loop
+element-write-sets c = search needs
+
+add-set : tie.Need-add-set Inv-loop μ-loop
+add-set c = search needs
+
+loop-less : tie.Need-loop-less Inv-loop μ-loop
+loop-less c = search needs
+
+loop-again : tie.Need-loop-again Inv-loop μ-loop
+loop-again c =
+    let i = c .before .before .before .loop .inv in
+    (stepping-turn _ _ _ (c .before .before .before .loop .set) (c .row-after .result) (c .before .before .before .loop .sets) (i .0) (omega arith) (c .row-after .ensures), i .1)
+
+returns : tie.Need-returns Inv-loop μ-loop
+returns c = search (needs, stepping-end)
+
+pub step-spec : {M : Type 1} → statement M
+step-spec =
+    tie.close
+    (tie.spec
+    Inv-loop
+    μ-loop
+    loop-holds
+    row-after-requires
+    mul-sets
+    element-write-sets
+    add-set
+    loop-less
+    loop-again
+    returns)

@@ -1,0 +1,177 @@
+// The chain question: a table over the sets of a component's atoms, and one pass over the sequence from its last entry to its first.
+use bits::byte_at;
+use bits::has;
+use bits::intersection;
+use bits::listed;
+use bits::subset;
+use bits::wide;
+use bits::with;
+use bits::without;
+use components::edges;
+ghost use mathlib.Core.Path.{_≡_};
+ghost use mathlib.Core.Bool.{true};
+ghost use Prim.Native.Nat.{_+_, _≤_, _<_};
+ghost use lib.ListN.{length, getD, drop};
+ghost use Rattle.lists.specs.Lists.{below};
+ghost use Rattle.asp.specs.Program.{Program};
+ghost use Rattle.unfolding.specs.Chain.{passes};
+ghost use Rattle.bits.specs.Sets.{has};
+ghost use Rattle.bits.specs.Listed.{Low};
+ghost use Rattle.sheet.specs.Sheet.{Walk, recordsFrom, programOf};
+ghost use Rattle.components.specs.Table.{NamesOf, named, componentsFit};
+ghost use Rattle.chains.specs.Table.{RowAfter, TableAfter, WithIf, Followers, PlaceOf, Power, Entered, Tested, Members, Graph, ComponentTested};
+
+// The row of the set after an entry at place i, which has edges to the places `after`.
+fn row_after(sets: &[u64; 1024], set: usize, i: usize, after: u64) -> u64
+    requires { ⌜ (set < 1024) × (i < 64) ⌝ }
+    ensures { λ r. ⌜ RowAfter (now (sets .entry)) set i after r ⌝ }
+{
+    let row = sets[set];
+    let less = without(set as u64, i);
+    if !has(set as u64, i) {
+        return row;
+    }
+    if subset(intersection(after, less), sets[less as usize]) {
+        return with(row, i);
+    }
+    row
+}
+
+// All rows below a size after such an entry: in place, since rows of sets with i are written and others are read.
+fn step(sets: &mut [u64; 1024], size: usize, i: usize, after: u64)
+    requires { ⌜ (length (now sets) ≡ 1024) × (size ≤ 1024) × (i < 64) ⌝ }
+    ensures { λ r. ⌜ TableAfter (now (sets .entry)) size i after (now (sets .exit)) ⌝ }
+{
+    let mut set = 0;
+    while set < size {
+        sets[set] = row_after(sets, set, i, after);
+        set += 1;
+    }
+}
+
+fn with_if(x: u64, a: usize, b: bool) -> u64
+    requires { ⌜ a < 64 ⌝ }
+    ensures { λ r. ⌜ WithIf x a b r ⌝ }
+{
+    if b {
+        return with(x, a);
+    }
+    x
+}
+
+// Has x an edge to a?
+fn leads(rows: &[u64; 64], x: usize, a: usize) -> bool
+    requires { ⌜ (x < 64) × (a < 64) ⌝ }
+    ensures { λ r. ⌜ r ≡ has (getD (now (rows .entry)) a 0) x ⌝ }
+{
+    has(rows[a], x)
+}
+
+// The places, among the first k atoms, that x has edges to.
+fn followers(rows: &[u64; 64], atoms: &[u8; 16], k: usize, x: usize) -> u64
+    requires { ⌜ (k ≤ 16) × Low (now atoms) k × (x < 64) ⌝ }
+    ensures { λ r. ⌜ Followers (now (rows .entry)) (now (atoms .entry)) k x r ⌝ }
+{
+    let mut set: u64 = 0;
+    let mut p = 0;
+    while p < k {
+        let b = leads(rows, x, wide(atoms[p]));
+        set = with_if(set, p, b);
+        p += 1;
+    }
+    set
+}
+
+// The place of x among the first k atoms, or k.
+fn place_of(atoms: &[u8; 16], k: usize, x: usize) -> usize
+    requires { ⌜ k ≤ 16 ⌝ }
+    ensures { λ r. ⌜ PlaceOf (now (atoms .entry)) k x r ⌝ }
+{
+    let mut p = 0;
+    while p < k {
+        if wide(atoms[p]) == x {
+            return p;
+        }
+        p += 1;
+    }
+    k
+}
+
+// How many sets of k places there are.
+fn power(k: usize) -> usize
+    requires { ⌜ k ≤ 10 ⌝ }
+    ensures { λ r. ⌜ Power k r ⌝ }
+{
+    1 << k
+}
+
+// One entry more.
+fn enter(sets: &mut [u64; 1024], rows: &[u64; 64], atoms: &[u8; 16], k: usize, x: usize)
+    requires { ⌜ (length (now sets) ≡ 1024) × (k ≤ 10) × Low (now atoms) k × (x < 64) ⌝ }
+    ensures { λ r. ⌜ Entered (now (rows .entry)) (now (atoms .entry)) k x (now (sets .entry)) (now (sets .exit)) ⌝ }
+{
+    let p = place_of(atoms, k, x);
+    if p < k {
+        let after = followers(rows, atoms, k, x);
+        step(sets, power(k), p, after);
+    }
+}
+
+// Is every chain of a component, the first k atoms, found in the sequence?
+fn chains_found(rows: &[u64; 64], atoms: &[u8; 16], k: usize, q: &[u8]) -> bool
+    requires { ⌜ (k ≤ 10) × Low (now atoms) k × (3 ≤ length (now q)) × (below 64 (drop 3 (now q)) ≡ true) ⌝ }
+    ensures { λ r. ⌜ Tested (now (rows .entry)) (now (atoms .entry)) k (drop 3 (now (q .entry))) r ⌝ }
+{
+    let mut sets = [0u64; 1024];
+    let mut i = q.len();
+    while 3 < i {
+        i -= 1;
+        enter(&mut sets, rows, atoms, k, byte_at(q, i));
+    }
+    let full = power(k) - 1;
+    subset(full as u64, sets[full])
+}
+
+// The atoms of the component named c.
+fn members(names: &[u8; 64], n: usize, c: usize) -> u64
+    requires { ⌜ n ≤ 64 ⌝ }
+    ensures { λ r. ⌜ Members (now (names .entry)) n c r ⌝ }
+{
+    let mut x: u64 = 0;
+    let mut a = 0;
+    while a < n {
+        let b = wide(names[a]) == c;
+        x = with_if(x, a, b);
+        a += 1;
+    }
+    x
+}
+
+// Is every chain of the component named c found in the sequence?
+fn component_found(rows: &[u64; 64], names: &[u8; 64], n: usize, c: usize, q: &[u8]) -> bool
+    requires { ⌜ (n ≤ 64) × (length (named (now names) c n) ≤ 10) × (3 ≤ length (now q)) × (below 64 (drop 3 (now q)) ≡ true) ⌝ }
+    ensures { λ r. ⌜ ((P : Program) → Graph P n (now (rows .entry)) (now (names .entry)) → ComponentTested P c (drop 3 (now (q .entry))) r) ⌝ }
+{
+    let x = members(names, n, c);
+    let list = listed(x);
+    let atoms = list.atoms;
+    let k = list.t;
+    chains_found(rows, &atoms, k, q)
+}
+
+// The chain question, of m records over n atoms with their components' names.
+pub fn passes(s: &[u8], n: usize, m: usize, names: &[u8; 64], q: &[u8]) -> bool
+    requires { ⌜ Walk (now s) n m 5 × (n ≤ 64) × NamesOf (programOf n (recordsFrom m (now s) 5)) (now names) × (componentsFit 10 (programOf n (recordsFrom m (now s) 5)) ≡ true) × (3 ≤ length (now q)) × (below n (drop 3 (now q)) ≡ true) ⌝ }
+    ensures { λ r. ⌜ r ≡ passes (programOf n (recordsFrom m (now (s .entry)) 5)) (drop 3 (now (q .entry))) ⌝ }
+{
+    let table = edges(s, n, m);
+    let rows = table.rows;
+    let mut c = 0;
+    while c < n {
+        if !component_found(&rows, names, n, c, q) {
+            return false;
+        }
+        c += 1;
+    }
+    true
+}

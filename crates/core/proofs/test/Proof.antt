@@ -1,0 +1,17 @@
+-- `core::test` meets its contract, one law for each way through it.
+use borrow.Author.Needs.{needs}
+use Rattle.core.proofs.Testing.{test-refused, test-passed}
+use Rattle.core.proofs.test.Statement.{statement}
+use Rattle.core.proofs.test.Tie as tie
+
+examine-requires : tie.Need-examine-requires
+examine-requires c κs = search needs
+
+returns : tie.Need-returns
+returns c = search (needs, test-refused)
+
+returns-2 : tie.Need-returns-2
+returns-2 c = search (needs, test-passed)
+
+pub test-spec : {M : Type 1} → statement M
+test-spec = tie.close (tie.spec examine-requires returns returns-2)
