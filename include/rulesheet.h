@@ -38,6 +38,14 @@ uint32_t rulesheet_default(const uint8_t *sheet, size_t sheet_len, uint8_t *out,
 /* Tests an unfolding sequence: 0 where every chain is found in it. */
 uint32_t rulesheet_test(const uint8_t *sheet, size_t sheet_len, const uint8_t *sequence, size_t sequence_len);
 
+/* Writes the unfolded program as words; out_len is the number of words lent. */
+uint32_t rulesheet_unfolded(const uint8_t *sheet, size_t sheet_len, const uint8_t *sequence, size_t sequence_len,
+                            uint32_t *out, size_t out_len, uint64_t *written);
+
+/* Writes the clauses as signed words, each clause ending in 0; out_len is the number of words lent. */
+uint32_t rulesheet_clauses(const uint8_t *sheet, size_t sheet_len, const uint8_t *sequence, size_t sequence_len,
+                           int32_t *out, size_t out_len, uint64_t *written, uint64_t *variables, uint64_t *clauses);
+
 /* Counts the settled states (answer sets). The verdict is 0 where there is none, 1 where there is one, 2 where there are more. */
 uint32_t rulesheet_count(const uint8_t *sheet, size_t sheet_len, uint64_t *count, uint64_t *verdict);
 

@@ -27,7 +27,7 @@ use Rattle.components.proofs.Components.{named-members}
 use Rattle.writer.specs.Wrote.{Wrote}
 use Rattle.writer.proofs.Writing.{wrote-append, wrote-whole}
 use Rattle.outputs.specs.Names.{nameBytes, blockOf, blocksOf}
-use Rattle.core.specs.Outcome.{answered, Writes}
+use Rattle.core.specs.Outcome.{refused, answered, Emits, Writes}
 use Rattle.core.specs.Outputs.{componentBytes, sequenceHeader, sequenceBytes, defaultBytes}
 use Rattle.core.specs.Operations.{componentsQuestions, defaultQuestions}
 use Rattle.core.specs.declared.WriteAnswer.the-variants as write
@@ -35,32 +35,43 @@ use Rattle.core.proofs.Default.{default-length}
 use Rattle.core.proofs.Reading.{outcome-refused, outcome-answered}
 
 -- Question 10 behind other questions, for any output: a refusal of those, no room, or the whole output.
-module _ {A : Type 0} (questions : ℕ) (output old : List A) where
+module _ {A : Type 0} (questions : ℕ) (output : List A) (more : List ℕ) (old : List A) where
   abbrev whole : ℕ
   whole = questions then ask (leb (length output) (length old)) 10
 
   untouched : (q : ℕ) → (q ≡ 0 → ⊥) → (new : List A) → old ≡ cond (eqb q 0) new old
   untouched q ne new = sym (rw (ne-eqb q 0 ne) refl)
 
-  pub room-refused : (r : ℕ) → r ≡ questions → (r ≡ 0 → ⊥) → Writes whole output old old (write.Refused r)
-  room-refused r e ne =
+  pub emits-refused : (r : ℕ) → r ≡ questions → (r ≡ 0 → ⊥) → Emits whole output more old old (refused r)
+  emits-refused r e ne =
       let same = e ∙ sym (then-refused questions (ask (leb (length output) (length old)) 10) (λ z. ne (e ∙ z))) in
-      record { says = outcome-refused whole r (length output ∷ []) same ne; leaves = untouched whole (λ z. ne (same ∙ z)) _ }
+      record { says = outcome-refused whole r (length output ∷ more) same ne; leaves = untouched whole (λ z. ne (same ∙ z)) _ }
 
-  pub room-full : questions ≡ 0 → length old < length output → Writes whole output old old (write.Refused 10)
+  pub emits-full : questions ≡ 0 → length old < length output → Emits whole output more old old (refused 10)
   unfolding ask
-  room-full z l =
+  emits-full z l =
       let same : 10 ≡ whole = sym (then-zero questions (ask (leb (length output) (length old)) 10) z ∙ rw (lt-leb (length output) (length old) l) refl) in
-      record { says = outcome-refused whole 10 (length output ∷ []) same (λ e. omega arith); leaves = untouched whole (λ e. let k = same ∙ e in omega arith) _ }
+      record { says = outcome-refused whole 10 (length output ∷ more) same (λ e. omega arith); leaves = untouched whole (λ e. let k = same ∙ e in omega arith) _ }
 
-  pub room-done : (new : List A) (next : ℕ) → questions ≡ 0 → length output ≤ length old → Wrote old 0 output new next → Writes whole output old new (write.Length next)
+  pub emits-done : (new : List A) (next : ℕ) → questions ≡ 0 → length output ≤ length old → Wrote old 0 output new next → Emits whole output more old new (answered (next ∷ more))
   unfolding ask
-  room-done new next z l W =
+  emits-done new next z l W =
       let same : 0 ≡ whole = sym (then-zero questions (ask (leb (length output) (length old)) 10) z ∙ rw (le-leb (length output) (length old) l) refl) in
       record {
-        says = ap (λ k. answered (k ∷ [])) (W .moved ∙ zero-add (length output)) ∙ outcome-answered whole 0 (length output ∷ []) same refl;
+        says = ap (λ k. answered (k ∷ more)) (W .moved ∙ zero-add (length output)) ∙ outcome-answered whole 0 (length output ∷ more) same refl;
         leaves = wrote-whole old output new next W l ∙ sym (rw (eq-eqb whole 0 (sym same)) refl);
       }
+
+-- The same where the length alone is answered.
+module _ {A : Type 0} (questions : ℕ) (output old : List A) where
+  pub room-refused : (r : ℕ) → r ≡ questions → (r ≡ 0 → ⊥) → Writes (whole questions output [] old) output old old (write.Refused r)
+  room-refused r e ne = emits-refused questions output [] old r e ne
+
+  pub room-full : questions ≡ 0 → length old < length output → Writes (whole questions output [] old) output old old (write.Refused 10)
+  room-full z l = emits-full questions output [] old z l
+
+  pub room-done : (new : List A) (next : ℕ) → questions ≡ 0 → length output ≤ length old → Wrote old 0 output new next → Writes (whole questions output [] old) output old new (write.Length next)
+  room-done new next z l W = emits-done questions output [] old new next z l W
 
 -- The outputs by names are the outputs by components.
 name-bytes : (P : Program) (names : List ℕ) → NamesOf P names → nameBytes names (P .atoms) ≡ map (component P) (range 0 (P .atoms))

@@ -3,3 +3,4 @@ pub mod Outputs
 pub mod Operations
 pub mod Bodies
 pub mod Examined
+pub mod Demands

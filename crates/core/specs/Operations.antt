@@ -16,7 +16,7 @@ use Rattle.sheet.specs.declared.Limits.{Limits}
 use Rattle.components.specs.Table.{sheetQuestions}
 use Rattle.masks.specs.Negated.{negatedAtoms}
 use Rattle.core.specs.Outcome.{code}
-use Rattle.core.specs.Outputs.{componentBytes, defaultBytes}
+use Rattle.core.specs.Outputs.{componentBytes, defaultBytes, unfoldedWords, clauseWords}
 
 -- Reading: 1 to 7.
 abbrev pub readQuestions : Limits → List ℕ → ℕ
@@ -36,6 +36,13 @@ defaultQuestions L room s = sheetQuestions L s then ask (leb (length (defaultByt
 -- Testing a sequence: 1 to 9.
 abbrev pub testQuestions : Limits → List ℕ → List ℕ → ℕ
 testQuestions L s q = sheetQuestions L s then ask (sequenceFits L (atomsByte s) q) 8 then ask (passes (program s) (entries q)) 9
+
+-- Writing the unfolded program and writing clauses: 1 to 9, then 10.
+abbrev pub unfoldedQuestions : Limits → ℕ → List ℕ → List ℕ → ℕ
+unfoldedQuestions L room s q = testQuestions L s q then ask (leb (length (unfoldedWords s q)) room) 10
+
+abbrev pub clausesQuestions : Limits → ℕ → List ℕ → List ℕ → ℕ
+clausesQuestions L room s q = testQuestions L s q then ask (leb (length (clauseWords s q)) room) 10
 
 -- Counting: 1 to 7, then 11, no more than 16 atoms stand in the negative list of a rule. It answers the count and the verdict.
 abbrev pub countQuestions : Limits → List ℕ → ℕ

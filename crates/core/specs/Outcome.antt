@@ -14,6 +14,8 @@ use Rattle.core.specs.declared.WriteAnswer.{WriteAnswer}
 use Rattle.core.specs.declared.WriteAnswer.the-variants as write
 use Rattle.core.specs.declared.TestAnswer.{TestAnswer}
 use Rattle.core.specs.declared.TestAnswer.the-variants as test
+use Rattle.core.specs.declared.ClausesAnswer.{ClausesAnswer}
+use Rattle.core.specs.declared.ClausesAnswer.the-variants as clauses
 use Rattle.core.specs.declared.Verdict as declared
 use Rattle.core.specs.declared.Verdict.the-variants as verdict
 use Rattle.core.specs.declared.CountAnswer.{CountAnswer}
@@ -44,6 +46,10 @@ abbrev pub testOf : TestAnswer → Outcome
 testOf (test.Refused q) = refused q
 testOf test.Passed = answered []
 
+abbrev pub clausesOf : ClausesAnswer → Outcome
+clausesOf (clauses.Refused q) = refused q
+clausesOf (clauses.Written l v c) = answered (l ∷ v ∷ c ∷ [])
+
 -- A verdict as a number.
 abbrev pub code : Verdict → ℕ
 code none = 0
@@ -59,8 +65,11 @@ abbrev pub countOf : CountAnswer → Outcome
 countOf (counted.Refused q) = refused q
 countOf (counted.Counted c v) = answered (c ∷ code (verdictOf v) ∷ [])
 
--- An operation that writes: it answers the length written, and the buffer holds the output and, behind it, what it held;
--- on a refusal it is as it was.
-pub record Writes {A : Type 0} (q : ℕ) (output old new : List A) (r : WriteAnswer) : Type 0 where
-  pub says : writeOf r ≡ outcome q (length output ∷ [])
+-- An operation that writes: it answers the length written, and what else there is to answer; the buffer holds the output and,
+-- behind it, what it held; on a refusal it is as it was.
+pub record Emits {A : Type 0} (q : ℕ) (output : List A) (more : List ℕ) (old new : List A) (r : Outcome) : Type 0 where
+  pub says : r ≡ outcome q (length output ∷ more)
   pub leaves : new ≡ cond (eqb q 0) (output ++ drop (length output) old) old
+
+abbrev pub Writes : {A : Type 0} → ℕ → List A → List A → List A → WriteAnswer → Type 0
+Writes q output old new r = Emits q output [] old new (writeOf r)

@@ -1,11 +1,16 @@
--- The outputs of the operations on a sheet alone.
+-- The outputs of the operations.
 use mathlib.Core.List.{List, [], _∷_, _++_, map}
 use Prim.Native.Nat.{ℕ, zero, suc, _+_, _/_, _%_}
+use lib.IntN.{ℤ}
 use lib.ListN.{length}
 use Rattle.lists.specs.Lists.{range}
 use Rattle.unfolding.specs.Graph.{component}
 use Rattle.unfolding.specs.Default.{defaultSequence}
+use Rattle.unfolding.specs.Unfolded.{words, unfolded}
+use Rattle.unfolding.specs.Clauses.{signedWords}
+use Rattle.unfolding.specs.Faithful.{clausesOf, variablesOf}
 use Rattle.sheet.specs.Format.{atomsByte, end, part}
+use Rattle.sheet.specs.Sequence.{entries}
 use Rattle.sheet.specs.Sheet.{program}
 
 -- Components: for each atom the smallest atom of its component.
@@ -34,3 +39,14 @@ place i s = offset i s 5
 
 unfoldable pub stretch : ℕ → List ℕ → List ℕ
 stretch i s = part (place i s + 4) (end s (place i s)) s
+
+-- The unfolded program of a sheet and a sequence.
+unfoldable pub unfoldedWords : List ℕ → List ℕ → List ℕ
+unfoldedWords s q = words (unfolded (program s) (entries q))
+
+-- Its clauses, and the numbers of variables and of clauses.
+unfoldable pub clauseWords : List ℕ → List ℕ → List ℤ
+clauseWords s q = signedWords (clausesOf (program s) (entries q))
+
+unfoldable pub clauseNumbers : List ℕ → List ℕ → List ℕ
+clauseNumbers s q = variablesOf (program s) (entries q) ∷ length (clausesOf (program s) (entries q)) ∷ []

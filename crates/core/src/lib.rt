@@ -1,6 +1,7 @@
 // The operations, with their limits as parameters.
 use bits::byte_at;
 use chains::passes;
+use completion::put_clauses;
 use components::Analysis;
 use components::analyse;
 use components::refused;
@@ -10,6 +11,7 @@ use sheet::Limits;
 use sheet::next_record;
 use sheet::record_end;
 use sheet::sequence_fits;
+use unfold::put_unfolded;
 use writer::put;
 ghost use mathlib.Core.Path.{_≡_};
 ghost use mathlib.Core.List.{_∷_, []};
@@ -20,13 +22,17 @@ ghost use lib.ListN.{length};
 ghost use Rattle.sheet.specs.Format.{atomsByte, recordsByte, positives};
 ghost use Rattle.asp.specs.Count.{count, verdict};
 ghost use Rattle.sheet.specs.Sheet.{Walk, program};
-ghost use Rattle.core.specs.Outcome.{readOf, bodyOf, testOf, verdictOf, countOf, outcome, Writes};
-ghost use Rattle.core.specs.Outputs.{componentBytes, defaultBytes, sequenceHeader, place, stretch};
+ghost use Rattle.core.specs.Outcome.{readOf, bodyOf, testOf, clausesOf, verdictOf, countOf, outcome, Writes};
+ghost use Rattle.core.specs.Outputs.{componentBytes, defaultBytes, sequenceHeader, place, stretch, unfoldedWords};
 ghost use Rattle.outputs.specs.Names.{blocksOf};
 ghost use Rattle.writer.specs.Wrote.{Wrote};
 ghost use Rattle.core.specs.Bodies.{Placed, BodyFound};
-ghost use Rattle.core.specs.Operations.{readQuestions, bodyQuestions, componentsQuestions, defaultQuestions, testQuestions, countQuestions, countValues};
+ghost use Rattle.core.specs.Operations.{readQuestions, bodyQuestions, componentsQuestions, defaultQuestions, testQuestions, unfoldedQuestions, countQuestions, countValues};
+ghost use Rattle.unfolding.specs.Unfolded.{words};
+ghost use Rattle.unfolding.specs.Clauses.{clauses, signedWords};
+ghost use Rattle.copies.specs.Ready.{Ready, unfoldedOf};
 ghost use Rattle.core.specs.Examined.{Examined};
+ghost use Rattle.core.specs.Demands.{ClausesPromise};
 
 // Reading: the refusal, or the numbers of atoms and records.
 pub enum ReadAnswer {
@@ -50,6 +56,12 @@ pub enum WriteAnswer {
 pub enum TestAnswer {
     Refused(u32),
     Passed,
+}
+
+// Writing clauses: the refusal, or the numbers of words written, of variables and of clauses.
+pub enum ClausesAnswer {
+    Refused(u32),
+    Written(usize, usize, usize),
 }
 
 // Whether there is no settled state, one, or more.
@@ -260,6 +272,65 @@ pub fn test(limits: Limits, s: &[u8], q: &[u8]) -> TestAnswer
         return TestAnswer::Refused(refusal);
     }
     TestAnswer::Passed
+}
+
+// How many words the unfolded program has.
+fn unfolded_length(s: &[u8], q: &[u8], n: usize, m: usize, names: &[u8; 64]) -> usize
+    requires { ⌜ Ready (now s) (now q) n m (now names) ⌝ }
+    ensures { λ r. ⌜ r ≡ length (words (unfoldedOf (now (s .entry)) (now (q .entry)) n m)) ⌝ }
+{
+    let mut none = [0u32; 0];
+    put_unfolded(&mut none, s, q, n, m, names)
+}
+
+// Writing the unfolded program.
+pub fn unfolded(limits: Limits, s: &[u8], q: &[u8], out: &mut [u32]) -> WriteAnswer
+    requires { ⌜ (limits .atoms ≤ 64) × (limits .records ≤ 128) × (limits .component ≤ 10) × (limits .entries ≤ 640) ⌝ }
+    ensures { λ r. ⌜ Writes (unfoldedQuestions limits (length (now (out .entry))) (now (s .entry)) (now (q .entry))) (unfoldedWords (now (s .entry)) (now (q .entry))) (now (out .entry)) (now (out .exit)) r ⌝ }
+{
+    let a = examine(limits, s, q);
+    let refusal = a.refusal;
+    if refusal != 0 {
+        return WriteAnswer::Refused(refusal);
+    }
+    let n = a.atoms;
+    let m = a.records;
+    let names = a.names;
+    if out.len() < unfolded_length(s, q, n, m, &names) {
+        return WriteAnswer::Refused(10);
+    }
+    let length = put_unfolded(out, s, q, n, m, &names);
+    WriteAnswer::Length(length)
+}
+
+// How many words the clauses have.
+fn clauses_length(s: &[u8], q: &[u8], n: usize, m: usize, names: &[u8; 64]) -> usize
+    requires { ⌜ Ready (now s) (now q) n m (now names) ⌝ }
+    ensures { λ r. ⌜ r ≡ length (signedWords (clauses (unfoldedOf (now (s .entry)) (now (q .entry)) n m))) ⌝ }
+{
+    let mut none = [0i32; 0];
+    let ends = put_clauses(&mut none, s, q, n, m, names);
+    ends.at
+}
+
+// Writing clauses.
+pub fn clauses(limits: Limits, s: &[u8], q: &[u8], out: &mut [i32]) -> ClausesAnswer
+    requires { ⌜ (limits .atoms ≤ 64) × (limits .records ≤ 128) × (limits .component ≤ 10) × (limits .entries ≤ 640) ⌝ }
+    ensures { λ r. ⌜ ClausesPromise limits (now (s .entry)) (now (q .entry)) (now (out .entry)) (now (out .exit)) (clausesOf r) ⌝ }
+{
+    let a = examine(limits, s, q);
+    let refusal = a.refusal;
+    if refusal != 0 {
+        return ClausesAnswer::Refused(refusal);
+    }
+    let n = a.atoms;
+    let m = a.records;
+    let names = a.names;
+    if out.len() < clauses_length(s, q, n, m, &names) {
+        return ClausesAnswer::Refused(10);
+    }
+    let ends = put_clauses(out, s, q, n, m, &names);
+    ClausesAnswer::Written(ends.at, ends.variables, ends.clauses)
 }
 
 fn verdict_on(states: u64) -> Verdict

@@ -6,15 +6,23 @@ use Prim.Native.Nat.{ℕ, _+_, _-_, _≤_}
 use native.Mathlib.Omega.{arith}
 use borrow.Author.Tests.{eqb-true, eq-eqb, ne-eqb}
 use lib.Dec.{eqb}
+use lib.IntN.{ℤ}
 use lib.ListN.{length}
 use Rattle.lists.proofs.Bools.{by-bool}
 use Rattle.sheet.specs.Format.{end, positives}
+use Rattle.unfolding.specs.Faithful.{clausesOf, variablesOf}
+use Rattle.sheet.specs.Sequence.{entries}
+use Rattle.sheet.specs.Sheet.{program}
 use Rattle.sheet.specs.declared.Limits.{Limits}
+use Rattle.core.specs.Outcome as outcomes
 use Rattle.core.specs.Outcome.{refused, answered, outcome, code, readOf, testOf, verdictOf, countOf, writeOf, Writes}
-use Rattle.core.specs.Outputs.{place}
-use Rattle.core.specs.Operations.{bodyQuestions}
+use Rattle.core.specs.Outputs.{place, clauseWords, clauseNumbers}
+use Rattle.core.specs.Operations.{bodyQuestions, clausesQuestions}
+use Rattle.core.specs.Demands.{ClausesPromise}
 use Rattle.core.specs.Bodies.{BodyFound}
 use Rattle.core.specs.declared.BodyPlace.{BodyPlace}
+use Rattle.core.specs.declared.ClausesAnswer.{ClausesAnswer}
+use Rattle.core.specs.declared.ClausesAnswer.the-variants as clauses
 use Rattle.core.specs.declared.CountAnswer.{CountAnswer}
 use Rattle.core.specs.declared.CountAnswer.the-variants as counted
 use Rattle.core.specs.declared.Verdict.{Verdict}
@@ -24,7 +32,8 @@ use Rattle.core.specs.declared.TestAnswer.{TestAnswer}
 use Rattle.core.specs.declared.TestAnswer.the-variants as test
 use Rattle.core.specs.declared.WriteAnswer.{WriteAnswer}
 use Rattle.core.specs.declared.WriteAnswer.the-variants as write
-use Rattle.exports.specs.Exported.{stored, Two, Three, Output}
+use Rattle.exports.specs.Exported.{stored, Two, Three, Output, Clauses}
+use Rattle.office.specs.Office.{office}
 
 -- Which of the two an outcome is.
 is-refused : (k q : ℕ) (values : List ℕ) → refused k ≡ outcome q values → (k ≡ q) × (eqb q 0 ≡ false)
@@ -92,6 +101,34 @@ module _ {A : Type 0} (q old-length : ℕ) (output old new : List A) (answer : W
       let same = u .0 in
       let a : l ≡ length output = cc same in
       record { says = sym (eqb-true q 0 (u .1)); leaves = W .leaves; size = a ∙ taken q (length output) old-length (u .1) }
+
+module _ (s sequence : List ℕ) (old-x old-y old-z : ℕ) (old new : List ℤ) (answer : ClausesAnswer) (W : ClausesPromise office s sequence old new (outcomes.clausesOf answer)) where
+  abbrev asked : ℕ
+  asked = clausesQuestions office (length old) s sequence
+
+  abbrev values : List ℕ
+  values = length (clauseWords s sequence) ∷ clauseNumbers s sequence
+
+  pub clauses-no : (k : ℕ) → answer ≡ clauses.Refused k → Clauses s sequence k old new old-x old-y old-z old-x old-y old-z
+  clauses-no k e =
+      let u = is-refused k asked values (sym (ap outcomes.clausesOf e) ∙ W .says) in
+      record { says = u .0; leaves = W .leaves; size = kept asked _ old-x (u .1); variables = kept asked _ old-y (u .1); clauses = kept asked _ old-z (u .1) }
+
+  pub clauses-yes : (l v c : ℕ) → answer ≡ clauses.Written l v c → Clauses s sequence 0 old new old-x old-y old-z l v c
+  unfolding clauseNumbers
+  clauses-yes l v c e =
+      let u = is-answered (l ∷ v ∷ c ∷ []) asked values (sym (ap outcomes.clausesOf e) ∙ W .says) in
+      let same = u .0 in
+      let a : l ≡ length (clauseWords s sequence) = cc same in
+      let b : v ≡ variablesOf (program s) (entries sequence) = cc same in
+      let d : c ≡ length (clausesOf (program s) (entries sequence)) = cc same in
+      record {
+        says = sym (eqb-true asked 0 (u .1));
+        leaves = W .leaves;
+        size = a ∙ taken asked _ old-x (u .1);
+        variables = b ∙ taken asked _ old-y (u .1);
+        clauses = d ∙ taken asked _ old-z (u .1);
+      }
 
 module _ (L : Limits) (i : ℕ) (s : List ℕ) (b : BodyPlace) (F : BodyFound L i s b) where
   pub body-no : (x y z old-x old-y old-z : ℕ) → (b .refusal ≡ 0 → ⊥) → Three (bodyQuestions L i s) (b .refusal) x y z old-x old-y old-z old-x old-y old-z

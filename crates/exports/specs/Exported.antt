@@ -4,7 +4,14 @@ use mathlib.Core.List.{List, _++_}
 use mathlib.Core.Path.{_≡_}
 use Prim.Native.Nat.{ℕ}
 use lib.Dec.{eqb}
+use lib.IntN.{ℤ}
 use lib.ListN.{length, drop}
+use Rattle.unfolding.specs.Faithful.{clausesOf, variablesOf}
+use Rattle.sheet.specs.Sequence.{entries}
+use Rattle.sheet.specs.Sheet.{program}
+use Rattle.core.specs.Outputs.{clauseWords}
+use Rattle.core.specs.Operations.{clausesQuestions}
+use Rattle.office.specs.Office.{office}
 
 -- A value that is stored where nothing is refused.
 abbrev pub stored : ℕ → ℕ → ℕ → ℕ
@@ -25,3 +32,11 @@ pub record Output {A : Type 0} (q r : ℕ) (output old new : List A) (old-length
   pub says : r ≡ q
   pub leaves : new ≡ cond (eqb q 0) (output ++ drop (length output) old) old
   pub size : new-length ≡ stored q (length output) old-length
+
+-- Writing clauses: the number of words, of variables and of clauses are stored.
+pub record Clauses (s sequence : List ℕ) (r : ℕ) (old new : List ℤ) (old-x old-y old-z new-x new-y new-z : ℕ) : Type 0 where
+  pub says : r ≡ clausesQuestions office (length old) s sequence
+  pub leaves : new ≡ cond (eqb (clausesQuestions office (length old) s sequence) 0) (clauseWords s sequence ++ drop (length (clauseWords s sequence)) old) old
+  pub size : new-x ≡ stored (clausesQuestions office (length old) s sequence) (length (clauseWords s sequence)) old-x
+  pub variables : new-y ≡ stored (clausesQuestions office (length old) s sequence) (variablesOf (program s) (entries sequence)) old-y
+  pub clauses : new-z ≡ stored (clausesQuestions office (length old) s sequence) (length (clausesOf (program s) (entries sequence))) old-z

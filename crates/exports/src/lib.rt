@@ -1,4 +1,5 @@
 // The operations for C and Rust: include/rulesheet.h declares them.
+use core::ClausesAnswer;
 use core::CountAnswer;
 use core::ReadAnswer;
 use core::TestAnswer;
@@ -10,6 +11,7 @@ use office::default_sequence;
 use office::find_body;
 use office::read;
 use office::test;
+use office::unfolded;
 ghost use mathlib.Core.Path.{_≡_};
 ghost use Prim.Native.Nat.{_+_, _-_};
 ghost use lib.ListN.{length};
@@ -17,10 +19,10 @@ ghost use Rattle.asp.specs.Count.{count, verdict};
 ghost use Rattle.sheet.specs.Sheet.{program};
 ghost use Rattle.sheet.specs.Format.{atomsByte, recordsByte, positives, end};
 ghost use Rattle.core.specs.Outcome.{code, verdictOf};
-ghost use Rattle.core.specs.Outputs.{componentBytes, defaultBytes, place};
-ghost use Rattle.core.specs.Operations.{readQuestions, bodyQuestions, componentsQuestions, defaultQuestions, testQuestions, countQuestions};
+ghost use Rattle.core.specs.Outputs.{componentBytes, defaultBytes, place, unfoldedWords};
+ghost use Rattle.core.specs.Operations.{readQuestions, bodyQuestions, componentsQuestions, defaultQuestions, testQuestions, unfoldedQuestions, countQuestions};
 ghost use Rattle.office.specs.Office.{office};
-ghost use Rattle.exports.specs.Exported.{Two, Three, Output};
+ghost use Rattle.exports.specs.Exported.{Two, Three, Output, Clauses};
 
 // Reading.
 #[no_mangle]
@@ -101,6 +103,50 @@ pub extern "C" fn rulesheet_test(sheet: &[u8], sequence: &[u8]) -> u32
     match answer {
         TestAnswer::Refused(q) => q,
         TestAnswer::Passed => 0,
+    }
+}
+
+// Writing the unfolded program.
+#[no_mangle]
+pub extern "C" fn rulesheet_unfolded(
+    sheet: &[u8],
+    sequence: &[u8],
+    out: &mut [u32],
+    written: &mut usize,
+) -> u32
+    ensures { λ r. ⌜ Output (unfoldedQuestions office (length (now (out .entry))) (now (sheet .entry)) (now (sequence .entry))) r (unfoldedWords (now (sheet .entry)) (now (sequence .entry))) (now (out .entry)) (now (out .exit)) (now (written .entry)) (now (written .exit)) ⌝ }
+{
+    let answer = unfolded(sheet, sequence, out);
+    match answer {
+        WriteAnswer::Refused(q) => q,
+        WriteAnswer::Length(l) => {
+            *written = l;
+            0
+        }
+    }
+}
+
+// Writing clauses.
+#[no_mangle]
+pub extern "C" fn rulesheet_clauses(
+    sheet: &[u8],
+    sequence: &[u8],
+    out: &mut [i32],
+    written: &mut usize,
+    variables: &mut usize,
+    clauses: &mut usize,
+) -> u32
+    ensures { λ r. ⌜ Clauses (now (sheet .entry)) (now (sequence .entry)) r (now (out .entry)) (now (out .exit)) (now (written .entry)) (now (variables .entry)) (now (clauses .entry)) (now (written .exit)) (now (variables .exit)) (now (clauses .exit)) ⌝ }
+{
+    let answer = office::clauses(sheet, sequence, out);
+    match answer {
+        ClausesAnswer::Refused(q) => q,
+        ClausesAnswer::Written(l, v, c) => {
+            *written = l;
+            *variables = v;
+            *clauses = c;
+            0
+        }
     }
 }
 

@@ -5,6 +5,8 @@ use native.Mathlib.Omega.{arith}
 use lib.Dec.{lit<, lit≤}
 use Rattle.sheet.specs.declared.Limits.{Limits}
 use Rattle.core.specs.Operations.{DefaultAccepted, TestIsChains}
+use Rattle.core.specs.Demands.{Demand3}
+use Rattle.core.proofs.Demands.{demand-3}
 use Rattle.core.proofs.Default.{default-accepted}
 use Rattle.core.proofs.Testing.{test-is-chains}
 use Rattle.office.specs.Office.{office}
@@ -21,6 +23,9 @@ small-components L e = let k = ap (λ (L : Limits). L .component) e in omega ari
 pub tabled-components : (L : Limits) → L ≡ office → L .component ≤ 10
 tabled-components L e = let k = ap (λ (L : Limits). L .component) e in omega arith
 
+pub few-entries : (L : Limits) → L ≡ office → L .entries ≤ 640
+few-entries L e = let k = ap (λ (L : Limits). L .entries) e in omega arith
+
 -- What the office's default sequence writes is accepted by questions 8 and 9.
 pub office-default-accepted : DefaultAccepted office
 office-default-accepted = default-accepted office (lit≤ tt) (lit< tt)
@@ -28,3 +33,7 @@ office-default-accepted = default-accepted office (lit≤ tt) (lit< tt)
 -- At the chain question a sequence passes just when every chain is found in it.
 pub office-test-is-chains : TestIsChains office
 office-test-is-chains = test-is-chains office
+
+-- Demand 3 of the office's operations.
+pub office-demand-3 : Demand3 office
+office-demand-3 = demand-3 office

@@ -1,6 +1,7 @@
 // The public operations, with the office's limits. Each takes any bytes and finishes.
 use core::BodyAnswer;
 use core::BodyPlace;
+use core::ClausesAnswer;
 use core::CountAnswer;
 use core::ReadAnswer;
 use core::TestAnswer;
@@ -12,10 +13,11 @@ ghost use mathlib.Core.Bool.{cond};
 ghost use lib.Dec.{eqb};
 ghost use lib.ListN.{length};
 ghost use Rattle.sheet.specs.Format.{atomsByte, recordsByte, positives};
-ghost use Rattle.core.specs.Outcome.{readOf, bodyOf, testOf, countOf, outcome, Writes};
+ghost use Rattle.core.specs.Outcome.{readOf, bodyOf, testOf, clausesOf, countOf, outcome, Writes};
 ghost use Rattle.core.specs.Bodies.{BodyFound};
-ghost use Rattle.core.specs.Outputs.{componentBytes, defaultBytes, place, stretch};
-ghost use Rattle.core.specs.Operations.{readQuestions, bodyQuestions, componentsQuestions, defaultQuestions, testQuestions, countQuestions, countValues};
+ghost use Rattle.core.specs.Outputs.{componentBytes, defaultBytes, place, stretch, unfoldedWords};
+ghost use Rattle.core.specs.Operations.{readQuestions, bodyQuestions, componentsQuestions, defaultQuestions, testQuestions, unfoldedQuestions, countQuestions, countValues};
+ghost use Rattle.core.specs.Demands.{ClausesPromise};
 ghost use Rattle.office.specs.Office.{office};
 
 fn limits() -> Limits
@@ -83,4 +85,18 @@ pub fn test(s: &[u8], q: &[u8]) -> TestAnswer
     ensures { λ r. ⌜ testOf r ≡ outcome (testQuestions office (now (s .entry)) (now (q .entry))) [] ⌝ }
 {
     core::test(limits(), s, q)
+}
+
+// Writing the unfolded program: the refusal, or the number of words.
+pub fn unfolded(s: &[u8], q: &[u8], out: &mut [u32]) -> WriteAnswer
+    ensures { λ r. ⌜ Writes (unfoldedQuestions office (length (now (out .entry))) (now (s .entry)) (now (q .entry))) (unfoldedWords (now (s .entry)) (now (q .entry))) (now (out .entry)) (now (out .exit)) r ⌝ }
+{
+    core::unfolded(limits(), s, q, out)
+}
+
+// Writing clauses: the refusal, or the numbers of words, of variables and of clauses.
+pub fn clauses(s: &[u8], q: &[u8], out: &mut [i32]) -> ClausesAnswer
+    ensures { λ r. ⌜ ClausesPromise office (now (s .entry)) (now (q .entry)) (now (out .entry)) (now (out .exit)) (clausesOf r) ⌝ }
+{
+    core::clauses(limits(), s, q, out)
 }

@@ -1,9 +1,11 @@
 -- The proof of each claim.
-use Rattle.unfolding.specs.Claims.{EveryAtomInOne, NamedBySmallest, ChainsAreListed, TestIsPasses, DefaultPasses, UnfoldedHasNoLoop, ClausesAreFaithful, LiteralsAreNumbered, WordsAreClauses}
+use Rattle.unfolding.specs.Claims.{EveryAtomInOne, NamedBySmallest, ChainsAreListed, TestIsPasses, DefaultPasses, UnfoldedHasNoLoop, WordsAreUnfolded, WordsHaveNoLoop, ClausesAreFaithful, LiteralsAreNumbered, WordsAreClauses}
 use Rattle.unfolding.proofs.Reach.{together-refl, component-of, component-only, component-together, component-smallest}
 use Rattle.unfolding.proofs.Chains.{chains-in, chains-out, passes-iff}
 use Rattle.unfolding.proofs.Default.{default-passes}
+use Rattle.unfolding.specs.Unfolded.{unfolded}
 use Rattle.unfolding.proofs.NoLoop.{no-positive-loop}
+use Rattle.unfolding.proofs.Decoding.{words-unfolded, words-no-loop}
 use Rattle.unfolding.proofs.Theorem.{faithful, literals-numbered, words-clauses}
 
 pub every-atom-in-one : EveryAtomInOne
@@ -23,6 +25,12 @@ default-is-found = default-passes
 
 pub unfolded-has-no-loop : UnfoldedHasNoLoop
 unfolded-has-no-loop = no-positive-loop
+
+pub words-are-unfolded : WordsAreUnfolded
+words-are-unfolded P s = words-unfolded (unfolded P s)
+
+pub words-have-no-loop : WordsHaveNoLoop
+words-have-no-loop P w s b = words-no-loop (unfolded P s) (no-positive-loop P w s b)
 
 pub clauses-are-faithful : ClausesAreFaithful
 clauses-are-faithful P s A = faithful P (A .program) s (A .entries) (A .found)

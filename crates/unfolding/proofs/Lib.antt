@@ -13,5 +13,6 @@ pub mod Bounds
 pub mod Words
 pub mod Theorem
 pub mod NoLoop
+pub mod Decoding
 pub mod Claims
 pub mod Examples

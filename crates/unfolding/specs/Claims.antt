@@ -9,7 +9,8 @@ use Rattle.asp.specs.Program.{Program, State, wellFormed}
 use Rattle.unfolding.specs.Graph.{Component, together, component}
 use Rattle.unfolding.specs.Chain.{Chain, Passes, chains, passes}
 use Rattle.unfolding.specs.Default.{defaultSequence}
-use Rattle.unfolding.specs.Unfolded.{NoPositiveLoop, unfolded}
+use Rattle.unfolding.specs.Unfolded.{NoPositiveLoop, unfolded, words}
+use Rattle.unfolding.specs.Decoded.{readUnfolded, nameless}
 use Rattle.unfolding.specs.Clauses.{Literal, Clause, variableOf, signedWords, readWords}
 use Rattle.unfolding.specs.Faithful.{clausesOf, variablesOf, Faithful}
 
@@ -44,6 +45,13 @@ DefaultPasses = (P : Program) → wellFormed P ≡ true → Passes P (defaultSeq
 -- The unfolded program has no positive loop, whatever the sequence of atoms.
 abbrev pub UnfoldedHasNoLoop : Type 0
 UnfoldedHasNoLoop = (P : Program) → wellFormed P ≡ true → (s : List ℕ) → below (P .atoms) s ≡ true → NoPositiveLoop (unfolded P s)
+
+-- The words of the unfolded program, read back, are the unfolded program, and so have no positive loop.
+abbrev pub WordsAreUnfolded : Type 0
+WordsAreUnfolded = (P : Program) (s : List ℕ) → readUnfolded (words (unfolded P s)) ≡ nameless (unfolded P s)
+
+abbrev pub WordsHaveNoLoop : Type 0
+WordsHaveNoLoop = (P : Program) → wellFormed P ≡ true → (s : List ℕ) → below (P .atoms) s ≡ true → NoPositiveLoop (readUnfolded (words (unfolded P s)))
 
 -- A program and a sequence of its atoms that passes.
 pub record Accepted (P : Program) (s : List ℕ) : Type 0 where

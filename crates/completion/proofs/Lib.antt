@@ -1,0 +1,5 @@
+pub mod Rules
+pub mod Copy
+pub mod Putting
+pub mod Bounds
+pub mod Whole

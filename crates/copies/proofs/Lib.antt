@@ -1,0 +1,5 @@
+pub mod Choosing
+pub mod Tables
+pub mod Tracking
+pub mod Going
+pub mod Sizes

@@ -1,0 +1,39 @@
+-- Which records are chosen by a table of variables, and their bodies over those variables.
+use mathlib.Core.Bool.{Bool, not, _&&_, cond}
+use mathlib.Core.List.{List, [], _∷_, map}
+use Prim.Native.Nat.{ℕ, _+_}
+use lib.Dec.{eqb}
+use lib.ListN.{length, getD}
+use Rattle.lists.specs.Lists.{all, filter}
+use Rattle.asp.specs.Program.{Body}
+use Rattle.unfolding.specs.Unfolded.{Copy, last, renamed}
+use Rattle.sheet.specs.Sheet.{Record, recordsFrom}
+
+-- A variable stands for the atom.
+abbrev pub stands : List ℕ → ℕ → Bool
+stands vars b = not (eqb (getD vars b 0) 0)
+
+-- The variable of a positive atom, by the table, or of a negative one, its last copy.
+unfoldable pub variableBy : List ℕ → Bool → ℕ → ℕ
+variableBy vars plain b = cond plain (getD vars b 0) (last b)
+
+-- The record is of this kind, with this head, and a variable stands for each of its positive atoms.
+unfoldable pub chosen : List ℕ → ℕ → ℕ → Record → Bool
+chosen vars kind a r = eqb (r .kind) kind && (eqb (r .head) a && all (stands vars) (r .body .pos))
+
+-- The body over the variables: negative atoms by their last copies.
+unfoldable pub bodyBy : List ℕ → Record → Body
+bodyBy vars r = renamed (λ b. getD vars b 0) (r .body)
+
+-- The bodies of the chosen records.
+unfoldable pub bodiesBy : List ℕ → ℕ → ℕ → List Record → List Body
+bodiesBy vars kind a rs = map (bodyBy vars) (filter (chosen vars kind a) rs)
+
+-- How many clauses bodies give as rules: two, and one for each atom.
+unfoldable pub clauseCount : List Body → ℕ
+clauseCount [] = 0
+clauseCount (b ∷ bs) = length (b .pos) + length (b .neg) + 2 + clauseCount bs
+
+-- The copy of a with the variable h, whose rules the table chooses.
+unfoldable pub copyOf : List ℕ → ℕ → ℕ → ℕ → List ℕ → Copy
+copyOf s m h a vars = record { atom = a; var = h; kept = bodiesBy vars 0 a (recordsFrom m s 5) }

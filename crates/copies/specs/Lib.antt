@@ -1,0 +1,4 @@
+pub mod Chosen
+pub mod Made
+pub mod Counted
+pub mod Ready

@@ -1,0 +1,61 @@
+-- `literals::put_flipped` meets its contract, one law for each way through it.
+use mathlib.Core.List.{map}
+use Prim.Native.Nat.{_-_}
+use borrow.Author.Needs.{needs}
+use lib.ListN.{length}
+use Rattle.copies.proofs.Choosing.{standing-low}
+use Rattle.literals.proofs.Lists.{variable-small, flippedFrom, flipped-next, flipped-end, flipped-room}
+use Rattle.literals.proofs.put_flipped.Statement.{statement}
+use Rattle.literals.proofs.put_flipped.Tie as tie
+use Rattle.literals.specs.Literals.{flipped}
+use Rattle.unfolding.specs.Clauses.{signed}
+use Rattle.writer.proofs.Writing.{Left, left-start, left-turn, left-length, left-end}
+
+abbrev Inv-loop : tie.InvT-loop
+Inv-loop out₀ at l vars plain pos₀ i₀ out pos i = Left out₀ at (map signed (flipped vars plain l)) out pos (flippedFrom vars plain l i)
+
+abbrev μ-loop : tie.MeasureT-loop
+μ-loop out₀ at l vars plain pos₀ i₀ out pos i = length l - i
+
+loop-holds : tie.Need-loop-holds Inv-loop μ-loop
+loop-holds c = search (needs, left-start)
+
+byte-at-requires : tie.Need-byte-at-requires Inv-loop μ-loop
+byte-at-requires c κs = search needs
+
+variable-requires : tie.Need-variable-requires Inv-loop μ-loop
+variable-requires c κs = search (needs, standing-low)
+
+put-literal-requires : tie.Need-put-literal-requires Inv-loop μ-loop
+put-literal-requires c κs = (search (needs, flipped-room), search (needs, variable-small))
+
+add-i : tie.Need-add-i Inv-loop μ-loop
+add-i c = search needs
+
+loop-less : tie.Need-loop-less Inv-loop μ-loop
+loop-less c = search needs
+
+loop-again : tie.Need-loop-again Inv-loop μ-loop
+loop-again c = search (needs, left-turn, flipped-next)
+
+same-length : tie.Need-same-length Inv-loop μ-loop
+same-length c = search (needs, left-length)
+
+returns : tie.Need-returns Inv-loop μ-loop
+returns c = search (needs, left-end, flipped-end)
+
+pub put-flipped-spec : {M : Type 1} → statement M
+put-flipped-spec =
+    tie.close
+    (tie.spec
+    Inv-loop
+    μ-loop
+    loop-holds
+    byte-at-requires
+    variable-requires
+    put-literal-requires
+    add-i
+    loop-less
+    loop-again
+    same-length
+    returns)
