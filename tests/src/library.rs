@@ -223,16 +223,78 @@ fn count(sheet: &Input) -> Result<Answer, String> {
     }
 }
 
-/// The count alone, with nothing checked, for measurements; none if the sheet is refused.
-pub fn plain_count(sheet: &[u8]) -> Option<u64> {
-    let (mut count, mut verdict) = (0, 0);
-    let status = unsafe { rulesheet_count(sheet.as_ptr(), sheet.len(), &mut count, &mut verdict) };
-    (status == 0).then_some(count)
+// Calls with nothing checked, for measurements: what the operation answers, or the refusal.
+
+/// The numbers of atoms and records.
+pub fn plain_read(sheet: &[u8]) -> Result<[u64; 2], u32> {
+    let (mut atoms, mut records) = (0, 0);
+    let status = unsafe { rulesheet_read(sheet.as_ptr(), sheet.len(), &mut atoms, &mut records) };
+    plain(status, [atoms, records])
 }
 
-/// The test of a sequence alone.
+/// The number of positive atoms, the offset and the length of the stretch.
+pub fn plain_body(sheet: &[u8], number: u64) -> Result<[u64; 3], u32> {
+    let (mut positives, mut offset, mut length) = (0, 0, 0);
+    let status =
+        unsafe { rulesheet_body(sheet.as_ptr(), sheet.len(), number, &mut positives, &mut offset, &mut length) };
+    plain(status, [positives, offset, length])
+}
+
+/// The number of bytes written.
+pub fn plain_components(sheet: &[u8], out: &mut [u8]) -> Result<usize, u32> {
+    plain_bytes(rulesheet_components, sheet, out)
+}
+
+/// The number of bytes written.
+pub fn plain_default(sheet: &[u8], out: &mut [u8]) -> Result<usize, u32> {
+    plain_bytes(rulesheet_default, sheet, out)
+}
+
+fn plain_bytes(function: Writer, sheet: &[u8], out: &mut [u8]) -> Result<usize, u32> {
+    let mut written = 0;
+    let status = unsafe { function(sheet.as_ptr(), sheet.len(), out.as_mut_ptr(), out.len(), &mut written) };
+    plain(status, written as usize)
+}
+
+/// Whether the sequence passes.
 pub fn plain_test(sheet: &[u8], sequence: &[u8]) -> bool {
     unsafe { rulesheet_test(sheet.as_ptr(), sheet.len(), sequence.as_ptr(), sequence.len()) == 0 }
+}
+
+/// The number of words written.
+pub fn plain_unfolded(sheet: &[u8], sequence: &[u8], out: &mut [u32]) -> Result<[u64; 1], u32> {
+    let mut written = 0;
+    let status = unsafe {
+        let (s, q, o) = (sheet.as_ptr(), sequence.as_ptr(), out.as_mut_ptr());
+        rulesheet_unfolded(s, sheet.len(), q, sequence.len(), o, out.len(), &mut written)
+    };
+    plain(status, [written])
+}
+
+/// The numbers of words written, of variables and of clauses.
+pub fn plain_clauses(sheet: &[u8], sequence: &[u8], out: &mut [i32]) -> Result<[u64; 3], u32> {
+    let [mut written, mut variables, mut clauses] = [0; 3];
+    let status = unsafe {
+        let (s, q, o) = (sheet.as_ptr(), sequence.as_ptr(), out.as_mut_ptr());
+        let (w, v, c) = (&mut written, &mut variables, &mut clauses);
+        rulesheet_clauses(s, sheet.len(), q, sequence.len(), o, out.len(), w, v, c)
+    };
+    plain(status, [written, variables, clauses])
+}
+
+/// The count.
+pub fn plain_count(sheet: &[u8]) -> Result<u64, u32> {
+    let (mut count, mut verdict) = (0, 0);
+    let status = unsafe { rulesheet_count(sheet.as_ptr(), sheet.len(), &mut count, &mut verdict) };
+    plain(status, count)
+}
+
+fn plain<A>(status: u32, answer: A) -> Result<A, u32> {
+    if status == 0 {
+        Ok(answer)
+    } else {
+        Err(status)
+    }
 }
 
 impl Library {

@@ -14,7 +14,7 @@ use lib.ListN.{length}
 use Rattle.lists.specs.Lists.{filter, range}
 use Rattle.lists.proofs.Bools.{by-bool, bool-ext, and-left, and-right}
 use Rattle.lists.proofs.Members.{filter-cong}
-use Rattle.bits.specs.Sets.{has, With, Without, Subset, Difference}
+use Rattle.bits.specs.Sets.{has, With, WithIf, Without, Subset, Difference}
 
 -- What holds at 0 and 1 holds of two digits.
 digits-ind : (P : ℕ → ℕ → Type 0) → P 0 0 → P 0 1 → P 1 0 → P 1 1 → (p q : ℕ) → p < 2 → q < 2 → P p q
@@ -193,3 +193,22 @@ full-has (suc k) (suc a) =
     let e = pow-suc 2 k in
     let half : (2 ^ suc k - 1) / 2 ≡ 2 ^ k - 1 = omega arith in
     has-half (2 ^ suc k - 1) a ∙ (ap (λ n. has n a) half ∙ (full-has k a ∙ bool-ext (λ t. lt-ltb (suc a) (suc k) (let l = ltb-true a k t in omega arith)) (λ t. lt-ltb a k (let l = ltb-true (suc a) (suc k) t in omega arith))))
+
+-- A set with an atom, where a test holds.
+joins : (x e : Bool) → (e || x) ≡ (x || e && true)
+joins true true = refl
+joins true false = refl
+joins false true = refl
+joins false false = refl
+
+pub skips : (x e : Bool) → x ≡ (x || e && false)
+skips true e = refl
+skips false true = refl
+skips false false = refl
+
+module _ (x a : ℕ) (b : Bool) where
+  pub with-yes : (r : ℕ) → b ≡ true → With x a r → WithIf x a b r
+  with-yes r t W = record { members = λ p. W .members p ∙ (joins (has x p) (eqb p a) ∙ ap (λ (y : Bool). has x p || eqb p a && y) (sym t)) }
+
+  pub with-no : b ≡ false → WithIf x a b x
+  with-no f = record { members = λ p. skips (has x p) (eqb p a) ∙ ap (λ (y : Bool). has x p || eqb p a && y) (sym f) }

@@ -16,6 +16,10 @@ pub record With (x a r : ℕ) : Type 0 where
   pub grows : x ≤ r
   pub members : (b : ℕ) → has r b ≡ (eqb b a || has x b)
 
+-- r is the set x with a, where b holds.
+pub record WithIf (x a : ℕ) (b : Bool) (r : ℕ) : Type 0 where
+  pub members : (p : ℕ) → has r p ≡ (has x p || eqb p a && b)
+
 -- r is the set x without a.
 pub record Without (x a r : ℕ) : Type 0 where
   pub falls : r ≤ x

@@ -2,8 +2,8 @@
 ghost use mathlib.Core.Path.{_≡_};
 ghost use mathlib.Core.Bool.{true};
 ghost use Prim.Native.Nat.{_+_, _≤_, _<_};
-ghost use Rattle.bits.specs.Sets.{has, With, Without, ByteAt, Gathered, Subset, Both, Either, Difference, Size};
-ghost use Rattle.bits.specs.Listed.{Listing};
+ghost use Rattle.bits.specs.Sets.{has, With, WithIf, Without, ByteAt, Gathered, Subset, Both, Either, Difference, Size};
+ghost use Rattle.bits.specs.Listed.{Listing, Permuted};
 ghost use lib.ListN.{length};
 ghost use Rattle.lists.specs.Lists.{below, filter, range};
 
@@ -87,6 +87,17 @@ pub fn union(x: u64, y: u64) -> u64
     x | y
 }
 
+// The set with a, where b holds.
+pub fn with_if(x: u64, a: usize, b: bool) -> u64
+    requires { ⌜ a < 64 ⌝ }
+    ensures { λ r. ⌜ WithIf x a b r ⌝ }
+{
+    if b {
+        return with(x, a);
+    }
+    x
+}
+
 // The set without a.
 pub fn without(x: u64, a: usize) -> u64
     requires { ⌜ a < 64 ⌝ }
@@ -114,6 +125,24 @@ impl Atoms {
             return Atoms { atoms, t: t + 1 };
         }
         self
+    }
+}
+
+impl Atoms {
+    // With two of them exchanged.
+    pub fn exchange(self, a: usize, b: usize) -> Atoms
+        requires { ⌜ (a < self .t) × (b < self .t) × (self .t ≤ 16) ⌝ }
+        ensures { λ r. ⌜ Permuted self r ⌝ }
+    {
+        if a == b {
+            return self;
+        }
+        let t = self.t;
+        let mut atoms = self.atoms;
+        let x = atoms[a];
+        atoms[a] = atoms[b];
+        atoms[b] = x;
+        Atoms { atoms, t }
     }
 }
 

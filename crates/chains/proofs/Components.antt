@@ -14,7 +14,7 @@ use Rattle.asp.specs.Program.{Program, wellFormed}
 use Rattle.unfolding.specs.Graph.{together, component}
 use Rattle.unfolding.specs.Chain.{Chain, passes}
 use Rattle.unfolding.specs.Default.{members}
-use Rattle.unfolding.proofs.Reach.{together-trans, together-sym, together-refl, together-below, component-together, component-smallest, component-same}
+use Rattle.unfolding.proofs.Reach.{together-refl, together-below, component-smallest, component-same, component-joins}
 use Rattle.unfolding.proofs.Chains.{passes-iff}
 use Rattle.bits.specs.Sets.{has}
 use Rattle.bits.specs.Listed.{Listing}
@@ -67,11 +67,7 @@ module _ (names : List ℕ) (n c x : ℕ) (M : Members names n c x) where
             edges = G .edges;
             low = atom-low;
             apart = listed-apart x L S;
-            joined = λ p q l m.
-                let a = component-together P (G .formed) (atom p) (atom-low p l) in
-                let b = component-together P (G .formed) (atom q) (atom-low q m) in
-                together-trans P (G .formed) (atom p) (component P (atom p)) (atom q) (atom-low p l) a
-                (subst (λ d. together P d (atom q) ≡ true) (atom-named q m ∙ sym (atom-named p l)) (together-sym P (G .formed) (atom q) (component P (atom q)) b));
+            joined = λ p q l m. component-joins P (G .formed) (atom p) (atom q) (atom-low p l) (atom-low q m) (atom-named p l ∙ sym (atom-named q m));
             whole = λ p l b t. named-place b (below-one p l b t) (sym (component-same P (G .formed) (atom p) b (atom-low p l) t) ∙ atom-named p l);
           }
         where

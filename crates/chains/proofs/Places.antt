@@ -1,7 +1,7 @@
 -- Laws of places: the set of places that an atom has edges to, an atom's own place, and the atoms of a component.
-use mathlib.Core.Bool.{Bool, true, false, _&&_, _||_}
+use mathlib.Core.Bool.{Bool, false, _&&_, _||_}
 use mathlib.Core.List.{List}
-use mathlib.Core.Path.{_≡_, refl, sym, _∙_, ap, subst}
+use mathlib.Core.Path.{_≡_, sym, _∙_, ap, subst}
 use Prim.Native.Nat.{ℕ, _+_, _*_, _%_, _^_, _≤_, _<_}
 use native.Mathlib.Nat.{one-mul}
 use native.Mathlib.Omega.{arith}
@@ -10,28 +10,10 @@ use lib.Dec.{eqb, ltb}
 use lib.ListN.{getD}
 use lib.Pow.{pow-mono, pow-pos, shl-exact}
 use Rattle.lists.proofs.Bools.{by-bool, bool-ext}
-use Rattle.bits.specs.Sets.{has, With}
+use Rattle.bits.specs.Sets.{has, WithIf}
 use Rattle.bits.specs.Listed.{Low}
-use Rattle.bits.proofs.Digits.{zero-has}
-use Rattle.chains.specs.Table.{WithIf, Followers, PlaceOf, Power, Members}
-
-joins : (x e : Bool) → (e || x) ≡ (x || e && true)
-joins true true = refl
-joins true false = refl
-joins false true = refl
-joins false false = refl
-
-skips : (x e : Bool) → x ≡ (x || e && false)
-skips true e = refl
-skips false true = refl
-skips false false = refl
-
-module _ (x a : ℕ) (b : Bool) where
-  pub with-yes : (r : ℕ) → b ≡ true → With x a r → WithIf x a b r
-  with-yes r t W = record { members = λ p. W .members p ∙ (joins (has x p) (eqb p a) ∙ ap (λ (y : Bool). has x p || eqb p a && y) (sym t)) }
-
-  pub with-no : b ≡ false → WithIf x a b x
-  with-no f = record { members = λ p. skips (has x p) (eqb p a) ∙ ap (λ (y : Bool). has x p || eqb p a && y) (sym f) }
+use Rattle.bits.proofs.Digits.{zero-has, skips}
+use Rattle.chains.specs.Table.{Followers, PlaceOf, Power, Members}
 
 -- The numbers below p of which the test holds.
 pub record Picking (t : ℕ → Bool) (p set : ℕ) : Type 0 where

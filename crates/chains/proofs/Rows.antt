@@ -1,5 +1,5 @@
 -- Laws of a row, and of the loop over the rows.
-use mathlib.Core.Bool.{Bool, true, false, not, _&&_, _||_}
+use mathlib.Core.Bool.{Bool, true, false, not, _&&_, _||_, and-false, or-false}
 use mathlib.Core.List.{List}
 use mathlib.Core.Path.{_≡_, refl, sym, _∙_, ap}
 use Prim.Native.Nat.{ℕ, _+_, _≤_, _<_}
@@ -72,11 +72,7 @@ module _ (old : List ℕ) (i after : ℕ) where
 
   -- A row of a set without i has its other places as before.
   others : (T r : ℕ) → RowAfter old T i after r → (q : ℕ) → (q ≡ i → ⊥) → has r q ≡ has (getD old T 0) q
-  others T r R q ne = R .members q ∙ (ap (λ (x : Bool). has (getD old T 0) q || x && (has T i && R .covered)) (ne-eqb q i ne) ∙ drop-false (has (getD old T 0) q))
-    where
-      drop-false : (x : Bool) → (x || false) ≡ x
-      drop-false true = refl
-      drop-false false = refl
+  others T r R q ne = R .members q ∙ (ap (λ (x : Bool). has (getD old T 0) q || x && (has T i && R .covered)) (ne-eqb q i ne) ∙ or-false (has (getD old T 0) q))
 
   pub stepping-turn : (S r : ℕ) (cur : List ℕ) → Stepping old i after S cur → S < length old → RowAfter cur S i after r → Stepping old i after (S + 1) (set cur S r)
   stepping-turn S r cur K l R =
@@ -90,12 +86,8 @@ module _ (old : List ℕ) (i after : ℕ) where
     where
       less-below : has S i ≡ true → R .less < S
       less-below t = by-bool (eqb (R .less) S)
-          (λ q. absurd (true-false (ap (λ n. has n i) (eqb-true (R .less) S q) ∙ t) (R .without i ∙ ap (λ (x : Bool). has S i && not x) (eq-eqb i i refl) ∙ and-off (has S i))))
+          (λ q. absurd (true-false (ap (λ n. has n i) (eqb-true (R .less) S q) ∙ t) (R .without i ∙ ap (λ (x : Bool). has S i && not x) (eq-eqb i i refl) ∙ and-false (has S i))))
           (λ q. let f = R .falls in let ne = eqb-false (R .less) S q in omega arith)
-        where
-          and-off : (x : Bool) → (x && false) ≡ false
-          and-off true = refl
-          and-off false = refl
 
       same-less : has S i ≡ true → (q : ℕ) → has (R .less) q ≡ true → has (getD cur (R .less) 0) q ≡ has (getD old (R .less) 0) q
       same-less t q g =

@@ -1,5 +1,5 @@
 -- Laws of the table: an entry more, and what the table says in the end.
-use mathlib.Core.Bool.{Bool, true, false, not, _&&_, _||_}
+use mathlib.Core.Bool.{Bool, true, not, _&&_, _||_, or-false}
 use mathlib.Core.List.{List, [], _∷_, List·Memᴰ, List·Memᴰ·head, Sublistᴰ, Sublistᴰ·cons, Sublistᴰ·refl}
 use mathlib.Core.Logic.{_↔_, ⊎-elim}
 use mathlib.Core.Path.{_≡_, refl, sym, _∙_, ap, subst}
@@ -107,11 +107,7 @@ module _ (P : Program) (rows atoms : List ℕ) (k : ℕ) (K : Setting P rows ato
       -- At another place.
       module _ (p : ℕ) (m : p < k) (ne : p ≡ i → ⊥) where
         kept : has (getD new S 0) p ≡ has (getD old S 0) p
-        kept = R .members p ∙ (ap (λ (y : Bool). has (getD old S 0) p || y && (has S i && R .covered)) (ne-eqb p i ne) ∙ no-more (has (getD old S 0) p))
-          where
-            no-more : (y : Bool) → (y || false) ≡ y
-            no-more true = refl
-            no-more false = refl
+        kept = R .members p ∙ (ap (λ (y : Bool). has (getD old S 0) p || y && (has S i && R .covered)) (ne-eqb p i ne) ∙ or-false (has (getD old S 0) p))
 
         differs : x ≡ atom p → ⊥
         differs f = ne (K .apart p i m low (sym f ∙ sym is))

@@ -45,10 +45,6 @@ pub record TableAfter (old : List ℕ) (size i after : ℕ) (new : List ℕ) : T
   pub long : length new ≡ length old
   pub rows : (S : ℕ) → S < size → RowAfter old S i after (getD new S 0)
 
--- The set with a, where the test holds.
-pub record WithIf (x a : ℕ) (b : Bool) (r : ℕ) : Type 0 where
-  pub members : (p : ℕ) → has r p ≡ (has x p || eqb p a && b)
-
 -- The places that the atom x has edges to.
 pub record Followers (rows atoms : List ℕ) (k x r : ℕ) : Type 0 where
   pub members : (q : ℕ) → has r q ≡ (ltb q k && has (getD rows (getD atoms q 0) 0) x)

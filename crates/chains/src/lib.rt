@@ -6,6 +6,7 @@ use bits::listed;
 use bits::subset;
 use bits::wide;
 use bits::with;
+use bits::with_if;
 use bits::without;
 use components::edges;
 ghost use mathlib.Core.Path.{_≡_};
@@ -19,7 +20,7 @@ ghost use Rattle.bits.specs.Sets.{has};
 ghost use Rattle.bits.specs.Listed.{Low};
 ghost use Rattle.sheet.specs.Sheet.{Walk, recordsFrom, programOf};
 ghost use Rattle.components.specs.Table.{NamesOf, named, componentsFit};
-ghost use Rattle.chains.specs.Table.{RowAfter, TableAfter, WithIf, Followers, PlaceOf, Power, Entered, Tested, Members, Graph, ComponentTested};
+ghost use Rattle.chains.specs.Table.{RowAfter, TableAfter, Followers, PlaceOf, Power, Entered, Tested, Members, Graph, ComponentTested};
 
 // The row of the set after an entry at place i, which has edges to the places `after`.
 fn row_after(sets: &[u64; 1024], set: usize, i: usize, after: u64) -> u64
@@ -47,16 +48,6 @@ fn step(sets: &mut [u64; 1024], size: usize, i: usize, after: u64)
         sets[set] = row_after(sets, set, i, after);
         set += 1;
     }
-}
-
-fn with_if(x: u64, a: usize, b: bool) -> u64
-    requires { ⌜ a < 64 ⌝ }
-    ensures { λ r. ⌜ WithIf x a b r ⌝ }
-{
-    if b {
-        return with(x, a);
-    }
-    x
 }
 
 // Has x an edge to a?

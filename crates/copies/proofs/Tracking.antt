@@ -16,7 +16,7 @@ use Rattle.lists.proofs.Members.{all-cong, all-intro, map-cong, below-at}
 use Rattle.asp.specs.Program.{Body, Program, bodyBelow, wellFormed}
 use Rattle.unfolding.specs.Graph.{together, component}
 use Rattle.unfolding.specs.Unfolded.{Copy, last, copied, latest, usable, replaced, renamed, isKept, keptFor, variable}
-use Rattle.unfolding.proofs.Reach.{component-same, component-together, together-sym, together-trans}
+use Rattle.unfolding.proofs.Reach.{component-same, component-joins}
 use Rattle.sheet.specs.Format.{end, posOf, negOf, kindFits, listFits, listsFit, rising}
 use Rattle.sheet.specs.Sheet.{Record, recordAt, recordsFrom, rulesOf, constraintsOf, Walk}
 use Rattle.sheet.proofs.Walk.{Sound, walk-step}
@@ -32,8 +32,7 @@ names-together : (P : Program) → wellFormed P ≡ true → (names : List ℕ) 
 names-together P wf names N a b l h =
     rw (N .name a l, N .name b h)
     (bool-ext
-    (λ e. together-trans P wf a (component P a) b l (component-together P wf a l)
-    (subst (λ c. together P c b ≡ true) (sym (eqb-true (component P a) (component P b) e)) (together-sym P wf b (component P b) (component-together P wf b h))))
+    (λ e. component-joins P wf a b l h (eqb-true (component P a) (component P b) e))
     (λ t. eq-eqb (component P a) (component P b) (component-same P wf a b l t)))
 
 -- The tables follow the copies made so far, e of which are not their atom's last.

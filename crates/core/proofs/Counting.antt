@@ -9,7 +9,6 @@ use lib.Dec.{leb, ltb}
 use lib.ListN.{length}
 use Rattle.asp.specs.Count.{count, Verdict, none, clear, split, verdict}
 use Rattle.sheet.specs.Questions.{ask}
-use Rattle.sheet.specs.Format.{atomsByte}
 use Rattle.sheet.specs.Sheet.{Walk, recordsFrom, programOf, program, records}
 use Rattle.sheet.specs.declared.Limits.{Limits}
 use Rattle.sheet.proofs.Records.{then-refused, then-zero}
@@ -24,7 +23,7 @@ use Rattle.core.specs.Outcome.{refused, answered, outcome, code, countOf
 use Rattle.core.specs.Operations.{countQuestions, countValues}
 use Rattle.core.specs.declared.Verdict as declared
 use Rattle.core.specs.declared.CountAnswer.the-variants as counted
-use Rattle.core.proofs.Reading.{outcome-refused, outcome-answered, walk-accepted}
+use Rattle.core.proofs.Reading.{outcome-refused, outcome-answered, walk-accepted, program-read}
 
 -- Verdicts.
 pub verdict-none : (k : ℕ) → k ≡ 0 → none ≡ verdict k
@@ -59,8 +58,7 @@ module _ (L : Limits) (s : List ℕ) (r : Analysis) (A : Analysed L s r) where
 
     module _ (t : Tally) (T : Tallied s (r .atoms) (r .records) t) where
       same : programOf (r .atoms) (recordsFrom (r .records) s 5) ≡ program s
-      unfolding program records
-      same = let K = A .accepted z in ap (λ n. programOf n (recordsFrom (r .records) s 5)) (K .atoms) ∙ ap (λ m. programOf (atomsByte s) (recordsFrom m s 5)) (K .records)
+      same = program-read L s r (A .accepted z)
 
       eleventh : countQuestions L s ≡ ask (leb (length (negatedAtoms (program s))) 16) 11
       eleventh = then-zero (sheetQuestions L s) _ (sym (A .says) ∙ z)

@@ -11,12 +11,12 @@ use lib.ListN.{length}
 use Rattle.bits.specs.Sets.{ByteAt}
 use Rattle.sheet.specs.Questions.{ask}
 use Rattle.sheet.specs.Format.{atomsByte, recordsByte, end, positives, part}
-use Rattle.sheet.specs.Sheet.{Walk, Stepped}
+use Rattle.sheet.specs.Sheet.{Walk, Stepped, recordsFrom, programOf, program, records}
 use Rattle.sheet.specs.declared.Limits.{Limits}
 use Rattle.sheet.proofs.Records.{then-refused, then-zero}
 use Rattle.sheet.proofs.Walk.{formed, walk-known}
 use Rattle.components.specs.Table.{sheetQuestions}
-use Rattle.components.specs.Analysed.{Analysed}
+use Rattle.components.specs.Analysed.{Accepted, Analysed}
 use Rattle.components.specs.declared.Analysis.{Analysis}
 use Rattle.core.specs.Outcome.{refused, answered, outcome}
 use Rattle.core.specs.Outputs.{offset, place, stretch}
@@ -45,6 +45,11 @@ module _ (L : Limits) (s : List ℕ) (r : Analysis) (A : Analysed L s r) where
 
   pub walk-accepted : r .refusal ≡ 0 → Walk s (r .atoms) (r .records) 5
   walk-accepted z = let K = A .accepted z in rw (K .atoms, K .records) (formed L s (K .form) .walk)
+
+-- The program of the records that are read is the sheet's.
+pub program-read : (L : Limits) (s : List ℕ) (r : Analysis) → Accepted L s r → programOf (r .atoms) (recordsFrom (r .records) s 5) ≡ program s
+unfolding program records
+program-read L s r K = ap (λ n. programOf n (recordsFrom (r .records) s 5)) (K .atoms) ∙ ap (λ m. programOf (atomsByte s) (recordsFrom m s 5)) (K .records)
 
 -- Going on to a record.
 pub record Going (s : List ℕ) (n number left at i : ℕ) : Type 0 where

@@ -27,7 +27,7 @@ use Rattle.components.specs.declared.Analysis.{Analysis}
 use Rattle.core.specs.Examined.{Examined}
 use Rattle.core.specs.Operations.{testQuestions, TestIsChains}
 use Rattle.core.specs.Outcome.{refused, answered, outcome}
-use Rattle.core.proofs.Reading.{outcome-refused, outcome-answered, walk-accepted}
+use Rattle.core.proofs.Reading.{outcome-refused, outcome-answered, walk-accepted, program-read}
 
 fit-more : (P : Program) (k l : ℕ) → k ≤ l → componentsFit k P ≡ true → componentsFit l P ≡ true
 unfolding componentsFit
@@ -40,8 +40,7 @@ module _ (L : Limits) (s q : List ℕ) (r : Analysis) (A : Analysed L s r) where
 
   module _ (z : r .refusal ≡ 0) where
     same : programOf (r .atoms) (recordsFrom (r .records) s 5) ≡ program s
-    unfolding program records
-    same = let K = A .accepted z in ap (λ n. programOf n (recordsFrom (r .records) s 5)) (K .atoms) ∙ ap (λ m. programOf (atomsByte s) (recordsFrom m s 5)) (K .records)
+    same = program-read L s r (A .accepted z)
 
     accepted : sheetQuestions L s ≡ 0
     accepted = sym (A .says) ∙ z

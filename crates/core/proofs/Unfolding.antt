@@ -28,6 +28,7 @@ use Rattle.core.specs.Operations.{testQuestions, unfoldedQuestions, clau
 use Rattle.core.specs.Demands.{ClausesPromise}
 use Rattle.core.specs.declared.ClausesAnswer.the-variants as written
 use Rattle.core.specs.declared.WriteAnswer.the-variants as write
+use Rattle.core.proofs.Reading.{program-read}
 use Rattle.core.proofs.Writing.{emits-refused, emits-full, emits-done, room-refused, room-full, room-done}
 
 module _ (L : Limits) (s q : List ℕ) (r : Analysis) (E : Examined L s q r) where
@@ -36,8 +37,7 @@ module _ (L : Limits) (s q : List ℕ) (r : Analysis) (E : Examined L s q r) whe
 
   module _ (z : r .refusal ≡ 0) where
     same : programOf (r .atoms) (recordsFrom (r .records) s 5) ≡ program s
-    unfolding program records
-    same = let K = E .accepted z .sheet in ap (λ n. programOf n (recordsFrom (r .records) s 5)) (K .atoms) ∙ ap (λ m. programOf (atomsByte s) (recordsFrom m s 5)) (K .records)
+    same = program-read L s r (E .accepted z .sheet)
 
     pub examined-ready : L .atoms ≤ 64 → L .records ≤ 128 → L .entries ≤ 640 → Ready s q (r .atoms) (r .records) (r .names)
     examined-ready l m t =

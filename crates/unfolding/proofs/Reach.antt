@@ -153,3 +153,7 @@ module _ (P : Program) (w : wellFormed P ≡ true) where
       let m = together-below P w a b l t in
       le-antisymm (component-smallest a (component P b) l (together-trans P w a b (component P b) l t (component-together b m)))
       (component-smallest b (component P a) m (together-trans P w b a (component P a) m (together-sym P w a b t) (component-together a l)))
+
+  pub component-joins : (a b : ℕ) → a < P .atoms → b < P .atoms → component P a ≡ component P b → together P a b ≡ true
+  component-joins a b l m e =
+      together-trans P w a (component P a) b l (component-together a l) (subst (λ c. together P c b ≡ true) (sym e) (together-sym P w b (component P b) (component-together b m)))

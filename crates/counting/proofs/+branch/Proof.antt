@@ -27,296 +27,9 @@ branch-at t = and 8 branch-kinds.ps (is 8 branch-kinds.ps μ-branch t) branch.Pr
 abbrev branch-below : ℕ → In 8 branch-kinds.ps
 branch-below t = and 8 branch-kinds.ps (falls 8 branch-kinds.ps _<_ μ-branch t) branch.Pre
 
-branch-least-requires : (t : ℕ) → branch-lts.Need-least-requires (
-  least-reads.Asked,
-  least-reads.Learnt,
-  intersection-reads.Asked,
-  intersection-reads.Learnt,
-  leaf-reads.Asked,
-  leaf-reads.Learnt,
-  lacking-reads.Asked,
-  lacking-reads.Learnt,
-  wide-reads.Asked,
-  wide-reads.Learnt,
-  with-reads.Asked,
-  with-reads.Learnt,
-  branch-below t,
-  branch.Post,
-) (branch-at t) branch.Post
-branch-least-requires t c κs = search needs
-
-branch-intersection-requires : (t : ℕ) → branch-lts.Need-intersection-requires (
-  least-reads.Asked,
-  least-reads.Learnt,
-  intersection-reads.Asked,
-  intersection-reads.Learnt,
-  leaf-reads.Asked,
-  leaf-reads.Learnt,
-  lacking-reads.Asked,
-  lacking-reads.Learnt,
-  wide-reads.Asked,
-  wide-reads.Learnt,
-  with-reads.Asked,
-  with-reads.Learnt,
-  branch-below t,
-  branch.Post,
-) (branch-at t) branch.Post
-branch-intersection-requires t c κs = search needs
-
-branch-returns : (t : ℕ) → branch-lts.Need-returns (
-  least-reads.Asked,
-  least-reads.Learnt,
-  intersection-reads.Asked,
-  intersection-reads.Learnt,
-  leaf-reads.Asked,
-  leaf-reads.Learnt,
-  lacking-reads.Asked,
-  lacking-reads.Learnt,
-  wide-reads.Asked,
-  wide-reads.Learnt,
-  with-reads.Asked,
-  with-reads.Learnt,
-  branch-below t,
-  branch.Post,
-) (branch-at t) branch.Post
-branch-returns t c = search (needs, found-met)
-
-branch-leaf-requires : (t : ℕ) → branch-lts.Need-leaf-requires (
-  least-reads.Asked,
-  least-reads.Learnt,
-  intersection-reads.Asked,
-  intersection-reads.Learnt,
-  leaf-reads.Asked,
-  leaf-reads.Learnt,
-  lacking-reads.Asked,
-  lacking-reads.Learnt,
-  wide-reads.Asked,
-  wide-reads.Learnt,
-  with-reads.Asked,
-  with-reads.Learnt,
-  branch-below t,
-  branch.Post,
-) (branch-at t) branch.Post
-branch-leaf-requires t c κs = search needs
-
-branch-returns-2 : (t : ℕ) → branch-lts.Need-returns-2 (
-  least-reads.Asked,
-  least-reads.Learnt,
-  intersection-reads.Asked,
-  intersection-reads.Learnt,
-  leaf-reads.Asked,
-  leaf-reads.Learnt,
-  lacking-reads.Asked,
-  lacking-reads.Learnt,
-  wide-reads.Asked,
-  wide-reads.Learnt,
-  with-reads.Asked,
-  with-reads.Learnt,
-  branch-below t,
-  branch.Post,
-) (branch-at t) branch.Post
-branch-returns-2 t c = search (needs, found-leaf)
-
-branch-lacking-requires : (t : ℕ) → branch-lts.Need-lacking-requires (
-  least-reads.Asked,
-  least-reads.Learnt,
-  intersection-reads.Asked,
-  intersection-reads.Learnt,
-  leaf-reads.Asked,
-  leaf-reads.Learnt,
-  lacking-reads.Asked,
-  lacking-reads.Learnt,
-  wide-reads.Asked,
-  wide-reads.Learnt,
-  with-reads.Asked,
-  with-reads.Learnt,
-  branch-below t,
-  branch.Post,
-) (branch-at t) branch.Post
-branch-lacking-requires t c κs = search needs
-
-branch-returns-3 : (t : ℕ) → branch-lts.Need-returns-3 (
-  least-reads.Asked,
-  least-reads.Learnt,
-  intersection-reads.Asked,
-  intersection-reads.Learnt,
-  leaf-reads.Asked,
-  leaf-reads.Learnt,
-  lacking-reads.Asked,
-  lacking-reads.Learnt,
-  wide-reads.Asked,
-  wide-reads.Learnt,
-  with-reads.Asked,
-  with-reads.Learnt,
-  branch-below t,
-  branch.Post,
-) (branch-at t) branch.Post
-branch-returns-3 t c = search (needs, found-lacks)
-
-branch-element-copy-out-wide : (t : ℕ) → branch-lts.Need-element-copy-out-wide (
-  least-reads.Asked,
-  least-reads.Learnt,
-  intersection-reads.Asked,
-  intersection-reads.Learnt,
-  leaf-reads.Asked,
-  leaf-reads.Learnt,
-  lacking-reads.Asked,
-  lacking-reads.Learnt,
-  wide-reads.Asked,
-  wide-reads.Learnt,
-  with-reads.Asked,
-  with-reads.Learnt,
-  branch-below t,
-  branch.Post,
-) (branch-at t) branch.Post
-branch-element-copy-out-wide t c = search needs
-
-branch-wide-requires : (t : ℕ) → branch-lts.Need-wide-requires (
-  least-reads.Asked,
-  least-reads.Learnt,
-  intersection-reads.Asked,
-  intersection-reads.Learnt,
-  leaf-reads.Asked,
-  leaf-reads.Learnt,
-  lacking-reads.Asked,
-  lacking-reads.Learnt,
-  wide-reads.Asked,
-  wide-reads.Learnt,
-  with-reads.Asked,
-  with-reads.Learnt,
-  branch-below t,
-  branch.Post,
-) (branch-at t) branch.Post
-branch-wide-requires t c κs = search needs
-
-branch-add-next : (t : ℕ) → branch-lts.Need-add-next (
-  least-reads.Asked,
-  least-reads.Learnt,
-  intersection-reads.Asked,
-  intersection-reads.Learnt,
-  leaf-reads.Asked,
-  leaf-reads.Learnt,
-  lacking-reads.Asked,
-  lacking-reads.Learnt,
-  wide-reads.Asked,
-  wide-reads.Learnt,
-  with-reads.Asked,
-  with-reads.Learnt,
-  branch-below t,
-  branch.Post,
-) (branch-at t) branch.Post
-branch-add-next t c = search needs
-
-branch-with-requires : (t : ℕ) → branch-lts.Need-with-requires (
-  least-reads.Asked,
-  least-reads.Learnt,
-  intersection-reads.Asked,
-  intersection-reads.Learnt,
-  leaf-reads.Asked,
-  leaf-reads.Learnt,
-  lacking-reads.Asked,
-  lacking-reads.Learnt,
-  wide-reads.Asked,
-  wide-reads.Learnt,
-  with-reads.Asked,
-  with-reads.Learnt,
-  branch-below t,
-  branch.Post,
-) (branch-at t) branch.Post
-branch-with-requires t c κs = search (needs, low-here)
-
-branch-branch-requires : (t : ℕ) → branch-lts.Need-branch-requires (
-  least-reads.Asked,
-  least-reads.Learnt,
-  intersection-reads.Asked,
-  intersection-reads.Learnt,
-  leaf-reads.Asked,
-  leaf-reads.Learnt,
-  lacking-reads.Asked,
-  lacking-reads.Learnt,
-  wide-reads.Asked,
-  wide-reads.Learnt,
-  with-reads.Asked,
-  with-reads.Learnt,
-  branch-below t,
-  branch.Post,
-) (branch-at t) branch.Post
-branch-branch-requires t c κs = (omega arith, search needs)
-
-branch-with-requires-2 : (t : ℕ) → branch-lts.Need-with-requires-2 (
-  least-reads.Asked,
-  least-reads.Learnt,
-  intersection-reads.Asked,
-  intersection-reads.Learnt,
-  leaf-reads.Asked,
-  leaf-reads.Learnt,
-  lacking-reads.Asked,
-  lacking-reads.Learnt,
-  wide-reads.Asked,
-  wide-reads.Learnt,
-  with-reads.Asked,
-  with-reads.Learnt,
-  branch-below t,
-  branch.Post,
-) (branch-at t) branch.Post
-branch-with-requires-2 t c κs = search (needs, low-here)
-
-branch-branch-requires-2 : (t : ℕ) → branch-lts.Need-branch-requires-2 (
-  least-reads.Asked,
-  least-reads.Learnt,
-  intersection-reads.Asked,
-  intersection-reads.Learnt,
-  leaf-reads.Asked,
-  leaf-reads.Learnt,
-  lacking-reads.Asked,
-  lacking-reads.Learnt,
-  wide-reads.Asked,
-  wide-reads.Learnt,
-  with-reads.Asked,
-  with-reads.Learnt,
-  branch-below t,
-  branch.Post,
-) (branch-at t) branch.Post
-branch-branch-requires-2 t c κs = (omega arith, search needs)
-
-branch-add-result : (t : ℕ) → branch-lts.Need-add-result (
-  least-reads.Asked,
-  least-reads.Learnt,
-  intersection-reads.Asked,
-  intersection-reads.Learnt,
-  leaf-reads.Asked,
-  leaf-reads.Learnt,
-  lacking-reads.Asked,
-  lacking-reads.Learnt,
-  wide-reads.Asked,
-  wide-reads.Learnt,
-  with-reads.Asked,
-  with-reads.Learnt,
-  branch-below t,
-  branch.Post,
-) (branch-at t) branch.Post
-branch-add-result t c = omega (arith, few _ _ _ (c .before .before .before .before .before .before .before .before .before .before .before .before .pre .1 .3) (c .before .before .branch .ensures .small), few _ _ _ (c .before .before .before .before .before .before .before .before .before .before .before .before .pre .1 .3) (c .branch2 .ensures .small))
-
-branch-returns-4 : (t : ℕ) → branch-lts.Need-returns-4 (
-  least-reads.Asked,
-  least-reads.Learnt,
-  intersection-reads.Asked,
-  intersection-reads.Learnt,
-  leaf-reads.Asked,
-  leaf-reads.Learnt,
-  lacking-reads.Asked,
-  lacking-reads.Learnt,
-  wide-reads.Asked,
-  wide-reads.Learnt,
-  with-reads.Asked,
-  with-reads.Learnt,
-  branch-below t,
-  branch.Post,
-) (branch-at t) branch.Post
-branch-returns-4 t c = search (needs, found-sum)
-
-pub +branch-spec : {M : Type 1} → statement M
-+branch-spec = close μ-branch λ t. branch-lts.spec (
+-- What is asked and learnt of each function that is called.
+abbrev called : ℕ → branch-lts.Claims
+called t = (
   least-reads.Asked,
   least-reads.Learnt,
   intersection-reads.Asked,
@@ -332,6 +45,57 @@ pub +branch-spec : {M : Type 1} → statement M
   branch-below t,
   branch.Post,
 )
+
+branch-least-requires : (t : ℕ) → branch-lts.Need-least-requires (called t) (branch-at t) branch.Post
+branch-least-requires t c κs = search needs
+
+branch-intersection-requires : (t : ℕ) → branch-lts.Need-intersection-requires (called t) (branch-at t) branch.Post
+branch-intersection-requires t c κs = search needs
+
+branch-returns : (t : ℕ) → branch-lts.Need-returns (called t) (branch-at t) branch.Post
+branch-returns t c = search (needs, found-met)
+
+branch-leaf-requires : (t : ℕ) → branch-lts.Need-leaf-requires (called t) (branch-at t) branch.Post
+branch-leaf-requires t c κs = search needs
+
+branch-returns-2 : (t : ℕ) → branch-lts.Need-returns-2 (called t) (branch-at t) branch.Post
+branch-returns-2 t c = search (needs, found-leaf)
+
+branch-lacking-requires : (t : ℕ) → branch-lts.Need-lacking-requires (called t) (branch-at t) branch.Post
+branch-lacking-requires t c κs = search needs
+
+branch-returns-3 : (t : ℕ) → branch-lts.Need-returns-3 (called t) (branch-at t) branch.Post
+branch-returns-3 t c = search (needs, found-lacks)
+
+branch-element-copy-out-wide : (t : ℕ) → branch-lts.Need-element-copy-out-wide (called t) (branch-at t) branch.Post
+branch-element-copy-out-wide t c = search needs
+
+branch-wide-requires : (t : ℕ) → branch-lts.Need-wide-requires (called t) (branch-at t) branch.Post
+branch-wide-requires t c κs = search needs
+
+branch-add-next : (t : ℕ) → branch-lts.Need-add-next (called t) (branch-at t) branch.Post
+branch-add-next t c = search needs
+
+branch-with-requires : (t : ℕ) → branch-lts.Need-with-requires (called t) (branch-at t) branch.Post
+branch-with-requires t c κs = search (needs, low-here)
+
+branch-branch-requires : (t : ℕ) → branch-lts.Need-branch-requires (called t) (branch-at t) branch.Post
+branch-branch-requires t c κs = (omega arith, search needs)
+
+branch-with-requires-2 : (t : ℕ) → branch-lts.Need-with-requires-2 (called t) (branch-at t) branch.Post
+branch-with-requires-2 t c κs = search (needs, low-here)
+
+branch-branch-requires-2 : (t : ℕ) → branch-lts.Need-branch-requires-2 (called t) (branch-at t) branch.Post
+branch-branch-requires-2 t c κs = (omega arith, search needs)
+
+branch-add-result : (t : ℕ) → branch-lts.Need-add-result (called t) (branch-at t) branch.Post
+branch-add-result t c = omega (arith, few _ _ _ (c .before .before .before .before .before .before .before .before .before .before .before .before .pre .1 .3) (c .before .before .branch .ensures .small), few _ _ _ (c .before .before .before .before .before .before .before .before .before .before .before .before .pre .1 .3) (c .branch2 .ensures .small))
+
+branch-returns-4 : (t : ℕ) → branch-lts.Need-returns-4 (called t) (branch-at t) branch.Post
+branch-returns-4 t c = search (needs, found-sum)
+
+pub +branch-spec : {M : Type 1} → statement M
++branch-spec = close μ-branch λ t. branch-lts.spec (called t)
     (branch-at t)
     branch.Post
     (branch-least-requires t)

@@ -1,8 +1,8 @@
--- `chains::with_if` meets its contract, one law for each way through it.
+-- `bits::with_if` meets its contract, one law for each way through it.
 use borrow.Author.Needs.{needs}
-use Rattle.chains.proofs.Places.{with-yes, with-no}
-use Rattle.chains.proofs.with_if.Statement.{statement}
-use Rattle.chains.proofs.with_if.Tie as tie
+use Rattle.bits.proofs.Digits.{with-yes, with-no}
+use Rattle.bits.proofs.with_if.Statement.{statement}
+use Rattle.bits.proofs.with_if.Tie as tie
 
 with-requires : tie.Need-with-requires
 with-requires c κs = search needs

@@ -1,0 +1,29 @@
+/* Sheet A from C: its default sequence, its clauses and its settled states. */
+#include "rulesheet.h"
+#include <stdio.h>
+
+int main(void) {
+    const uint8_t sheet[] = {1, 0, 25, 3, 4, 4, 0, 0, 1, 1, 4, 0, 1, 1, 0, 4, 0, 0, 0, 2, 4, 0, 2, 0, 0};
+    uint8_t sequence[643];
+    int32_t words[16384];
+    uint64_t written, variables, clauses, states, verdict;
+
+    if (rulesheet_default(sheet, sizeof sheet, sequence, sizeof sequence, &written) != 0) {
+        return 1;
+    }
+    printf("default sequence:");
+    for (uint64_t i = 3; i < written; i++) {
+        printf(" %d", sequence[i]);
+    }
+    printf("\ntest: %u\n", rulesheet_test(sheet, sizeof sheet, sequence, written));
+    if (rulesheet_clauses(sheet, sizeof sheet, sequence, written, words, 16384, &written, &variables, &clauses) != 0) {
+        return 1;
+    }
+    printf("clauses: %d over %d variables\n", (int)clauses, (int)variables);
+    if (rulesheet_count(sheet, sizeof sheet, &states, &verdict) != 0) {
+        return 1;
+    }
+    printf("settled states: %d, verdict %d\n", (int)states, (int)verdict);
+    printf("no bytes: refused %u\n", rulesheet_count(sheet, 0, &states, &verdict));
+    return 0;
+}

@@ -1,0 +1,55 @@
+"""Answer sets of sheets and models of clauses, by clasp and gringo (Debian packages of these names)."""
+
+import shutil
+import subprocess
+import sys
+
+# No model; all models listed.
+CLASP_STATUS = (20, 30)
+
+
+def needed():
+    if not (shutil.which("clasp") and shutil.which("gringo")):
+        sys.exit("clasp and gringo are needed: apt-get install clasp gringo")
+
+
+def answer_sets(sheet):
+    """The answer sets of a sheet's bytes, each as the rising list of its atoms."""
+    ground = run(["gringo"], "\n".join(asp_rules(sheet)).encode())
+    lines = run(["clasp", "0"], ground.encode(), CLASP_STATUS).splitlines()
+    sets = [lines[i + 1] for i, line in enumerate(lines) if line.startswith("Answer:")]
+    return [sorted(int(atom[1:]) for atom in answer_set.split()) for answer_set in sets]
+
+
+def asp_rules(sheet):
+    at = 5
+    for _ in range(sheet[4]):
+        length, kind, head, positives = sheet[at : at + 4]
+        start, end = at + 4 + positives, at + 1 + length
+        body = [f"a{atom}" for atom in sheet[at + 4 : start]] + [f"not a{atom}" for atom in sheet[start:end]]
+        yield f"{'' if kind else f'a{head}'} :- {', '.join(body)}."
+        at = end
+
+
+def models(dimacs):
+    """The models, each as the rising list of its true variables."""
+    lines = run(["clasp", "0"], dimacs.encode(), CLASP_STATUS).splitlines()
+    model = []
+    for value in (int(value) for line in lines if line.startswith("v") for value in line[1:].split()):
+        if value > 0:
+            model.append(value)
+        elif value == 0:
+            yield sorted(model)
+            model = []
+
+
+def cuts(dimacs, atoms):
+    """The models cut to the atoms, each as the rising list of those that are true."""
+    return [[variable - 1 for variable in model if variable <= atoms] for model in models(dimacs)]
+
+
+def run(command, data, status=(0,)):
+    done = subprocess.run(command, input=data, stdout=subprocess.PIPE, stderr=subprocess.DEVNULL)
+    if done.returncode not in status:
+        sys.exit(f"{command[0]} ended with status {done.returncode}")
+    return done.stdout.decode()

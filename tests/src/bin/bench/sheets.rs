@@ -1,0 +1,148 @@
+//! The sheets that are measured.
+
+use rulesheet_tests::inputs::{add_choices, cycle, Style};
+use rulesheet_tests::random::Random;
+use rulesheet_tests::sheet::{rule, Record, Sheet};
+
+const SEED: u64 = 1;
+
+/// The example of the service's description.
+pub fn sheet_a() -> Sheet {
+    Sheet::new(3, vec![rule(0, &[1], &[]), rule(1, &[0], &[]), rule(0, &[], &[2]), rule(2, &[], &[0])])
+}
+
+/// Components in which each atom has an edge to every other.
+pub fn complete(components: u8, size: u8) -> Sheet {
+    let block = |first: u8| {
+        let others = move |atom| (first..first + size).filter(|&other| other != atom).collect::<Vec<u8>>();
+        (first..first + size).map(move |atom| rule(atom, &others(atom), &[]))
+    };
+    Sheet::new(components * size, (0..components).flat_map(|place| block(place * size)).collect())
+}
+
+/// Rules for the first atoms in turn, each with every atom in both lists: those atoms are one component.
+pub fn full(atoms: u8, heads: u8, rules: u8) -> Sheet {
+    let all: Vec<u8> = (0..atoms).collect();
+    Sheet::new(atoms, (0..rules).map(|place| rule(place % heads, &all, &all)).collect())
+}
+
+/// Six complete components of ten atoms: each rule has every atom that comes before its component, those of the
+/// component, and every atom negated.
+pub fn six_components() -> Sheet {
+    let all: Vec<u8> = (0..60).collect();
+    let earlier = |head: u8| &all[..usize::from(head / 10 * 10 + 10)];
+    Sheet::new(60, (0..128).map(|place| place % 60).map(|head| rule(head, earlier(head), &all)).collect())
+}
+
+/// Rules for atom 0 with every atom in both lists, and atom 63 in its component: none is kept before a copy of 63.
+pub fn late() -> Sheet {
+    let mut sheet = full(64, 1, 127);
+    sheet.records.push(rule(63, &[0], &[]));
+    sheet
+}
+
+/// Families of sheets for the count.
+pub fn families() -> Vec<(&'static str, Vec<Sheet>)> {
+    let mut random = Random::new(SEED);
+    let mut shuffled = last_decides();
+    random.shuffle(&mut shuffled);
+    vec![
+        ("empty", vec![Sheet::default()]),
+        ("random", (0..20).map(|_| random_sheet(&mut random)).collect()),
+        ("8 even loops", vec![even_loops()]),
+        ("chain of 64", vec![Sheet::new(64, chain())]),
+        ("chain of 64, reverse", vec![Sheet::new(64, reverse(chain()))]),
+        ("8 pumps of 2", vec![pumps(2)]),
+        ("8 pumps of 7", vec![pumps(7)]),
+        ("last of 16 decides", vec![Sheet::new(64, twice(last_decides()))]),
+        ("first of 16 decides", vec![Sheet::new(64, twice(exchanged(last_decides(), 0, 15)))]),
+        ("last of 16 decides, shuffled", vec![Sheet::new(64, twice(shuffled))]),
+        ("last of 16 decides, reverse", vec![Sheet::new(64, twice(reverse(last_decides())))]),
+        ("last of 16 decides, 4 cycles of 10, reverse", vec![Sheet::new(64, twice(reverse(last_decides_by_cycles())))]),
+        ("last of 16 decides, 100 idle rules", vec![Sheet::new(64, last_decides_idle())]),
+    ]
+}
+
+fn random_sheet(random: &mut Random) -> Sheet {
+    let style = Style { atoms: 64, records: 120, component: 10, negated: 10, body: 4 };
+    let mut sheet = style.sheet(random);
+    add_choices(random, &mut sheet);
+    sheet
+}
+
+fn even_loop(a: u8, b: u8) -> [Record; 2] {
+    [rule(a, &[], &[b]), rule(b, &[], &[a])]
+}
+
+fn even_loops() -> Sheet {
+    Sheet::new(16, (0..8).flat_map(|pair| even_loop(2 * pair, 2 * pair + 1)).collect())
+}
+
+fn chain() -> Vec<Record> {
+    let links = (1..64).map(|atom| rule(atom, &[atom - 1], &[]));
+    [rule(0, &[], &[])].into_iter().chain(links).collect()
+}
+
+/// Eight cycles of so many atoms, each with an atom that holds if the cycle does not.
+fn pumps(size: u8) -> Sheet {
+    let pump = |first: u8| {
+        let atoms: Vec<u8> = (first..first + size).collect();
+        cycle(&atoms).into_iter().chain(even_loop(first, first + size))
+    };
+    Sheet::new(8 * (size + 1), (0..8).flat_map(|place| pump(place * (size + 1))).collect())
+}
+
+/// Atoms 0 to 15 are negated, and only 15 decides anything: without it a chain holds, from 16 to 63 and on from 0 to 14.
+/// Passes in sheet order would take the most turns where it is written in reverse.
+fn last_decides() -> Vec<Record> {
+    let others: Vec<u8> = (0..15).collect();
+    let order: Vec<u8> = (16..64).chain(0..15).collect();
+    let links = order.windows(2).map(|pair| rule(pair[1], &[pair[0]], &[]));
+    [rule(15, &[], &others), rule(16, &[], &[15])].into_iter().chain(links).collect()
+}
+
+/// The same, where the chain goes through four cycles of ten atoms.
+fn last_decides_by_cycles() -> Vec<Record> {
+    let mut records = last_decides();
+    records.truncate(2);
+    let order: Vec<u8> = (16..56).chain(0..15).collect();
+    records.extend(order.windows(2).map(|pair| rule(pair[1], &[pair[0]], &[])));
+    records.extend((16..56).step_by(10).map(|first| rule(first, &[first + 9], &[])));
+    records
+}
+
+/// The same with one component of ten atoms: each that is derived brings passes back to the first of many rules that never apply.
+fn last_decides_idle() -> Vec<Record> {
+    let component: Vec<u8> = (16..26).collect();
+    let mut records = vec![rule(16, &component, &[])];
+    records.extend((0..100).map(|place| rule(25, &[16 + place % 10, 26], &[])));
+    records.extend((17..26).rev().map(|atom| rule(atom, &[atom - 1], &[])));
+    records.extend([rule(15, &[], &(0..15).collect::<Vec<u8>>()), rule(16, &[], &[15])]);
+    records.extend((0..15).map(|atom| rule(atom, &[25], &[])));
+    records
+}
+
+/// The same with two atoms exchanged.
+fn exchanged(records: Vec<Record>, a: u8, b: u8) -> Vec<Record> {
+    let other = |atom: u8| match atom {
+        atom if atom == a => b,
+        atom if atom == b => a,
+        atom => atom,
+    };
+    let list = |atoms: &[u8]| {
+        let mut atoms: Vec<u8> = atoms.iter().copied().map(other).collect();
+        atoms.sort_unstable();
+        atoms
+    };
+    records.iter().map(|record| rule(other(record.head), &list(&record.positives), &list(&record.negatives))).collect()
+}
+
+fn reverse(mut records: Vec<Record>) -> Vec<Record> {
+    records.reverse();
+    records
+}
+
+/// Each record twice in a row.
+fn twice(records: Vec<Record>) -> Vec<Record> {
+    records.into_iter().flat_map(|record| [record.clone(), record]).collect()
+}
