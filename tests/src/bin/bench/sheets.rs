@@ -60,6 +60,7 @@ pub fn families() -> Vec<(&'static str, Vec<Sheet>)> {
         ("last of 16 decides, reverse", vec![Sheet::new(64, twice(reverse(last_decides())))]),
         ("last of 16 decides, 4 cycles of 10, reverse", vec![Sheet::new(64, twice(reverse(last_decides_by_cycles())))]),
         ("last of 16 decides, 100 idle rules", vec![Sheet::new(64, last_decides_idle())]),
+        ("last of 16 decides, others heavier", vec![Sheet::new(64, twice(last_decides_light()))]),
     ]
 }
 
@@ -122,7 +123,16 @@ fn last_decides_idle() -> Vec<Record> {
     records
 }
 
-/// The same with two atoms exchanged.
+/// Only 15 decides anything, as before, but more atoms hang on the others, by rules that never apply.
+fn last_decides_light() -> Vec<Record> {
+    let others: Vec<u8> = (0..15).collect();
+    let mut records = vec![rule(15, &[], &others), rule(17, &[16], &others)];
+    records.extend(others.iter().map(|&atom| rule(atom, &[], &[15])));
+    records.extend((17..63).map(|atom| rule(atom + 1, &[atom], &[])));
+    records
+}
+
+/// The records with two atoms exchanged.
 fn exchanged(records: Vec<Record>, a: u8, b: u8) -> Vec<Record> {
     let other = |atom: u8| match atom {
         atom if atom == a => b,
