@@ -61,6 +61,7 @@ pub fn families() -> Vec<(&'static str, Vec<Sheet>)> {
         ("last of 16 decides, 4 cycles of 10, reverse", vec![Sheet::new(64, twice(reverse(last_decides_by_cycles())))]),
         ("last of 16 decides, 100 idle rules", vec![Sheet::new(64, last_decides_idle())]),
         ("last of 16 decides, others heavier", vec![Sheet::new(64, twice(last_decides_light()))]),
+        ("last of 16 decides, others heavier, 68 idle rules", vec![Sheet::new(64, last_decides_light_idle())]),
     ]
 }
 
@@ -129,6 +130,16 @@ fn last_decides_light() -> Vec<Record> {
     let mut records = vec![rule(15, &[], &others), rule(17, &[16], &others)];
     records.extend(others.iter().map(|&atom| rule(atom, &[], &[15])));
     records.extend((17..63).map(|atom| rule(atom + 1, &[atom], &[])));
+    records
+}
+
+/// Both: the idle rules of the component, and more atoms that hang on the others. The worst sheet found.
+fn last_decides_light_idle() -> Vec<Record> {
+    let others: Vec<u8> = (0..15).collect();
+    let mut records = last_decides_idle();
+    records.drain(1..33);
+    records.push(rule(31, &[30], &others));
+    records.extend((31..63).map(|atom| rule(atom + 1, &[atom], &[])));
     records
 }
 
