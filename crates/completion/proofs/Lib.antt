@@ -1,5 +1,3 @@
 pub mod Rules
-pub mod Copy
-pub mod Putting
-pub mod Bounds
+pub mod Sizes
 pub mod Whole

@@ -1,94 +1,99 @@
 -- Laws of writing the clauses of the rules kept for a copy.
-use mathlib.Core.Bool.{Bool, true, false, cond}
 use mathlib.Core.List.{List, [], _∷_, _++_, map, flatMap}
-use mathlib.Core.Path.{_≡_, refl, sym, _∙_, ap, subst}
+use mathlib.Core.Path.{_≡_, refl, sym, _∙_, ap}
 use Prim.Native.Nat.{ℕ, zero, suc, _+_, _-_, _≤_, _<_}
-use native.Mathlib.Nat.{add-zero}
 use native.Mathlib.Numerals.{add-one, sub-one}
 use native.Mathlib.Omega.{arith}
 use lib.IntN.{ℤ, pos, negℤ}
 use lib.ListN.{length, length-append, length-map}
 use Rattle.lists.specs.Lists.{range}
-use Rattle.lists.proofs.Bools.{by-bool}
 use Rattle.lists.proofs.Nodup.{length-range}
 use Rattle.asp.specs.Program.{Body}
-use Rattle.unfolding.specs.Clauses.{Literal, positive, negative, ruleClauses, rulesClauses, signed, clauseWords, signedWords}
-use Rattle.sheet.specs.Sheet.{recordAt, recordsFrom, Walk, Stepped}
+use Rattle.unfolding.specs.Clauses.{Literal, positive, negative, ruleClauses, rulesClauses, constraintClause, signed, clauseWords, signedWords}
 use Rattle.writer.specs.Wrote.{Wrote}
 use Rattle.writer.proofs.Writing.{Left, left-start, left-turn, left-end, left-length, wrote-append}
-use Rattle.copies.specs.Chosen.{chosen, bodyBy, bodiesBy}
-use Rattle.copies.proofs.Choosing.{bodies-yes, bodies-no, bodies-none}
+use Rattle.copies.specs.Bodies.{bodiesAt}
+use Rattle.copies.proofs.Choosing.{bodyAt, bodies-first, bodies-over}
 use Rattle.literals.proofs.Rule.{signed-append}
-use Rattle.completion.specs.Ends.{keptWords}
 
--- A rule that may be kept.
-module _ (h d : ℕ) (kept : Bool) (b : Body) where
-  pub kept-room : (at : ℕ) → kept ≡ true → at + length (keptWords h d kept b) < 4294967296 → at + length (signedWords (ruleClauses h d b)) < 4294967296
-  unfolding keptWords
-  kept-room at t l = rw t at l
+-- The loop over the rules.
+module _ (s vars places : List ℕ) (k h d : ℕ) where
+  abbrev rulesWords : List ℤ
+  rulesWords = signedWords (rulesClauses h d (bodiesAt s vars places 0 k))
 
-  pub kept-wrote : (old new : List ℤ) (at r : ℕ) → kept ≡ true → Wrote old at (signedWords (ruleClauses h d b)) new r → Wrote old at (keptWords h d kept b) new r
-  unfolding keptWords
-  kept-wrote old new at r t W = rw t W
-
-  pub kept-none : (old : List ℤ) (at : ℕ) → kept ≡ false → Wrote old at (keptWords h d kept b) old at
-  unfolding keptWords
-  kept-none old at f = rw f (record { stored = refl; moved = sym (add-zero at) })
-
--- The loop over the records.
-module _ (vars : List ℕ) (h d a : ℕ) (s : List ℕ) (n m : ℕ) where
-  abbrev pub rulesWords : List ℤ
-  rulesWords = signedWords (rulesClauses h d (bodiesBy vars 0 a (recordsFrom m s 5)))
-
-  pub record RulesLeft (old : List ℤ) (at : ℕ) (cur : List ℤ) (at′ rule from left : ℕ) : Type 0 where
-    pub walk : Walk s n left from
-    pub few : rule + left ≤ d + m
-    pub rest : Left old at rulesWords cur at′ (signedWords (rulesClauses h rule (bodiesBy vars 0 a (recordsFrom left s from))))
+  pub record RulesLeft (old : List ℤ) (at : ℕ) (cur : List ℤ) (at′ rule j : ℕ) : Type 0 where
+    pub next : rule ≡ d + j
+    pub rest : Left old at rulesWords cur at′ (signedWords (rulesClauses h rule (bodiesAt s vars places j (k - j))))
 
   module _ (old : List ℤ) (at : ℕ) where
-    pub rules-start : Walk s n m 5 → RulesLeft old at old at d 5 m
-    rules-start W = record { walk = W; few = omega arith; rest = left-start old at rulesWords rulesWords refl }
+    pub rules-start : RulesLeft old at old at d 0
+    rules-start = record { next = omega arith; rest = left-start old at rulesWords _ (ap (λ i. signedWords (rulesClauses h d (bodiesAt s vars places 0 i))) (let e : k - 0 ≡ k = omega arith in e)) }
 
-    module _ (cur : List ℤ) (at′ rule from left r : ℕ) (L : RulesLeft old at cur at′ rule from left) (within : 0 < left) (S : Stepped s n left from r) (kept : Bool) (e : kept ≡ chosen vars 0 a (recordAt s from)) where
-      step : signedWords (rulesClauses h rule (bodiesBy vars 0 a (recordsFrom left s from)))
-          ≡ keptWords h rule kept (bodyBy vars (recordAt s from)) ++ signedWords (rulesClauses h (cond kept (rule + 1) rule) (bodiesBy vars 0 a (recordsFrom (left - 1) s r)))
-      unfolding keptWords rulesClauses
-      step =
-          let x = recordAt s from in
-          let rs = recordsFrom (left - 1) s r in
-          by-bool kept
-          (λ t. rw t (ap (λ l. signedWords (rulesClauses h rule l)) (ap (bodiesBy vars 0 a) (S .list) ∙ bodies-yes vars 0 a x rs (sym e ∙ t))
-          ∙ (signed-append (ruleClauses h rule (bodyBy vars x)) (rulesClauses h (suc rule) (bodiesBy vars 0 a rs))
-          ∙ ap (λ k. signedWords (ruleClauses h rule (bodyBy vars x)) ++ signedWords (rulesClauses h k (bodiesBy vars 0 a rs))) (sym (add-one rule)))))
-          (λ f. rw f (ap (λ l. signedWords (rulesClauses h rule l)) (ap (bodiesBy vars 0 a) (S .list) ∙ bodies-no vars 0 a x rs (sym e ∙ f))))
+    module _ (cur : List ℤ) (at′ rule j : ℕ) (L : RulesLeft old at cur at′ rule j) where
+      module _ (lt : j < k) where
+        abbrev here : List ℤ
+        here = signedWords (ruleClauses h rule (bodyAt s vars places j))
 
-      pub rules-room : at + length rulesWords < 4294967296 → at′ + length (keptWords h rule kept (bodyBy vars (recordAt s from))) < 4294967296
-      rules-room l =
-          let f = ap length step ∙ length-append (keptWords h rule kept (bodyBy vars (recordAt s from))) (signedWords (rulesClauses h (cond kept (rule + 1) rule) (bodiesBy vars 0 a (recordsFrom (left - 1) s r)))) in
-          let g = L .rest .ends in
-          omega arith
+        step : signedWords (rulesClauses h rule (bodiesAt s vars places j (k - j))) ≡ here ++ signedWords (rulesClauses h (rule + 1) (bodiesAt s vars places (j + 1) (k - (j + 1))))
+        unfolding rulesClauses
+        step =
+            let rest : List Body = bodiesAt s vars places (j + 1) (k - (j + 1)) in
+            ap (λ bs. signedWords (rulesClauses h rule bs)) (bodies-first s vars places j k lt)
+            ∙ (signed-append (ruleClauses h rule (bodyAt s vars places j)) (rulesClauses h (suc rule) rest)
+            ∙ ap (λ v. here ++ signedWords (rulesClauses h v rest)) (sym (add-one rule)))
 
-      pub rules-turn : (new : List ℤ) (next v : ℕ) → v ≡ cond kept (rule + 1) rule → Wrote cur at′ (keptWords h rule kept (bodyBy vars (recordAt s from))) new next → RulesLeft old at new next v r (left - 1)
-      rules-turn new next v q W =
-          record {
-            walk = S .rest;
-            few = let f = L .few in let g = grows kept in omega arith;
-            rest = subst (λ k. Left old at rulesWords new next (signedWords (rulesClauses h k (bodiesBy vars 0 a (recordsFrom (left - 1) s r))))) (sym q)
-                (left-turn old at rulesWords cur new _ _ _ at′ next (L .rest) step W);
-          }
-        where
-          grows : (b : Bool) → cond b (rule + 1) rule ≤ rule + 1
-          grows true = omega arith
-          grows false = omega arith
+        pub rules-variable : d + k < 2147483648 → rule < 2147483648
+        rules-variable l = let e = L .next in omega arith
 
-    pub rules-length : (cur : List ℤ) (at′ rule from left : ℕ) → RulesLeft old at cur at′ rule from left → length cur ≡ length old
-    rules-length cur at′ rule from left L = left-length old at rulesWords cur _ at′ (L .rest)
+        pub rules-room : at + length rulesWords < 4294967296 → at′ + length here < 4294967296
+        rules-room l =
+            let f = ap length step ∙ length-append here (signedWords (rulesClauses h (rule + 1) (bodiesAt s vars places (j + 1) (k - (j + 1))))) in
+            let g = L .rest .ends in
+            omega arith
 
-    pub rules-end : (cur : List ℤ) (at′ rule from left : ℕ) → RulesLeft old at cur at′ rule from left → left ≤ 0 → Wrote old at rulesWords cur at′
-    unfolding recordsFrom rulesClauses signedWords flatMap
-    rules-end cur at′ rule from left L z =
-        left-end old at rulesWords cur _ at′ (L .rest)
-        (ap (λ k. signedWords (rulesClauses h rule (bodiesBy vars 0 a (recordsFrom k s from)))) (let e : left ≡ 0 = omega arith in e) ∙ ap (λ l. signedWords (rulesClauses h rule l)) (bodies-none vars 0 a))
+        pub rules-turn : (new : List ℤ) (next : ℕ) → Wrote cur at′ here new next → RulesLeft old at new next (rule + 1) (j + 1)
+        rules-turn new next W = record { next = let e = L .next in omega arith; rest = left-turn old at rulesWords cur new _ _ _ at′ next (L .rest) step W }
+
+      pub rules-length : length cur ≡ length old
+      rules-length = left-length old at rulesWords cur _ at′ (L .rest)
+
+      pub rules-end : k ≤ j → Wrote old at rulesWords cur at′
+      unfolding rulesClauses signedWords flatMap
+      rules-end l = left-end old at rulesWords cur _ at′ (L .rest) (ap (λ bs. signedWords (rulesClauses h rule bs)) (bodies-over s vars places j k l))
+
+-- The loop over the constraints.
+module _ (s vars places : List ℕ) (k : ℕ) where
+  abbrev backWords : ℕ → ℕ → List ℤ
+  backWords j i = signedWords (map constraintClause (bodiesAt s vars places j i))
+
+  pub record BacksLeft (old : List ℤ) (at : ℕ) (cur : List ℤ) (at′ j : ℕ) : Type 0 where
+    pub rest : Left old at (backWords 0 k) cur at′ (backWords j (k - j))
+
+  module _ (old : List ℤ) (at : ℕ) where
+    pub backs-start : BacksLeft old at old at 0
+    backs-start = record { rest = left-start old at (backWords 0 k) _ (ap (backWords 0) (let e : k - 0 ≡ k = omega arith in e)) }
+
+    module _ (cur : List ℤ) (at′ j : ℕ) (L : BacksLeft old at cur at′ j) where
+      module _ (lt : j < k) where
+        abbrev this : List ℤ
+        this = clauseWords (constraintClause (bodyAt s vars places j))
+
+        back-step : backWords j (k - j) ≡ this ++ backWords (j + 1) (k - (j + 1))
+        unfolding signedWords flatMap
+        back-step = ap (λ bs. signedWords (map constraintClause bs)) (bodies-first s vars places j k lt)
+
+        pub backs-room : at + length (backWords 0 k) < 4294967296 → at′ + length this < 4294967296
+        backs-room l = let f = ap length back-step ∙ length-append this (backWords (j + 1) (k - (j + 1))) in let g = L .rest .ends in omega arith
+
+        pub backs-turn : (new : List ℤ) (next : ℕ) → Wrote cur at′ this new next → BacksLeft old at new next (j + 1)
+        backs-turn new next W = record { rest = left-turn old at (backWords 0 k) cur new _ _ _ at′ next (L .rest) back-step W }
+
+      pub backs-length : length cur ≡ length old
+      backs-length = left-length old at (backWords 0 k) cur _ at′ (L .rest)
+
+      pub backs-end : k ≤ j → Wrote old at (backWords 0 k) cur at′
+      unfolding signedWords flatMap
+      backs-end l = left-end old at (backWords 0 k) cur _ at′ (L .rest) (ap (λ bs. signedWords (map constraintClause bs)) (bodies-over s vars places j k l))
 
 -- The literals d, d + 1 and on.
 abbrev pub rangeWords : ℕ → ℕ → List ℤ

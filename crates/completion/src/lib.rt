@@ -1,55 +1,27 @@
 // Writing the completion clauses of the unfolded program.
-use copies::count;
-use copies::is_chosen;
+use copies::choose;
+use copies::index_of;
 use copies::last_copies;
 use copies::no_copies;
-use copies::pick;
+use copies::totals_of;
 use literals::put_back;
 use literals::put_negated;
 use literals::put_plain;
 use literals::put_rule;
-use sheet::next_record;
-ghost use mathlib.Core.List.{[], _∷_, map};
+ghost use mathlib.Core.List.{_∷_, map};
 ghost use Prim.Native.Nat.{suc, _+_, _≤_, _<_};
 ghost use lib.ListN.{length};
 ghost use Rattle.lists.specs.Lists.{range};
-ghost use Rattle.unfolding.specs.Clauses.{positive, negative, rulesClauses, copyClauses, signed, clauseWords, signedWords};
-ghost use Rattle.sheet.specs.Sheet.{Known, Walk, recordAt, recordsFrom};
+ghost use Rattle.unfolding.specs.Clauses.{positive, negative, rulesClauses, copiesClauses, constraintClause, clauses, signed, clauseWords, signedWords};
+ghost use Rattle.sheet.specs.Sheet.{Walk, recordsFrom};
 ghost use Rattle.writer.specs.Wrote.{Wrote};
-ghost use Rattle.copies.specs.Chosen.{bodyBy, bodiesBy, copyOf};
-ghost use Rattle.copies.specs.Ready.{Ready};
+ghost use Rattle.copies.specs.Bodies.{bodiesBy, bodiesAt, lastBodies};
+ghost use Rattle.copies.specs.Indexed.{Placed, Indexed};
+ghost use Rattle.copies.specs.Ready.{Ready, unfoldedOf};
 ghost use Rattle.literals.specs.Literals.{Low};
-ghost use Rattle.completion.specs.Ends.{keptWords, constraintClauses, Put, CopiesPut, ClausesPut};
+ghost use Rattle.completion.specs.Ends.{copyWords, CopyPut, NumbersOf};
 
-// Where the next word goes, how many variables are in use, and how many clauses are written.
-pub struct Ends {
-    pub at: usize,
-    pub variables: usize,
-    pub clauses: usize,
-}
-
-// The clauses of the rule at an offset, where it is kept.
-fn put_kept(
-    out: &mut [i32],
-    at: usize,
-    h: u32,
-    d: u32,
-    s: &[u8],
-    from: usize,
-    n: usize,
-    vars: &[u32; 64],
-    kept: bool,
-) -> usize
-    requires { ⌜ Known (now s) n from × (n ≤ 64) × Low (now vars) × (h < 2147483648) × (d < 2147483648) × (at + length (keptWords h d kept (bodyBy (now vars) (recordAt (now s) from))) < 4294967296) ⌝ }
-    ensures { λ r. ⌜ Wrote (now (out .entry)) at (keptWords h d kept (bodyBy (now (vars .entry)) (recordAt (now (s .entry)) from))) (now (out .exit)) r ⌝ }
-{
-    if kept {
-        return put_rule(out, at, h, d, s, from, n, vars);
-    }
-    at
-}
-
-// The clauses of the rules kept for a copy of a with the variable h; their variables are d, d + 1 and on.
+// The clauses of the rules at the first k places, for h; their variables are d, d + 1 and on.
 fn put_rules(
     out: &mut [i32],
     at: usize,
@@ -57,24 +29,20 @@ fn put_rules(
     d: u32,
     s: &[u8],
     n: usize,
-    m: usize,
-    a: usize,
+    places: &[usize; 128],
+    k: usize,
     vars: &[u32; 64],
 ) -> usize
-    requires { ⌜ Walk (now s) n m 5 × (n ≤ 64) × Low (now vars) × (h < 2147483648) × (d + m < 2147483648) × (at + length (signedWords (rulesClauses h d (bodiesBy (now vars) 0 a (recordsFrom m (now s) 5)))) < 4294967296) ⌝ }
-    ensures { λ r. ⌜ Wrote (now (out .entry)) at (signedWords (rulesClauses h d (bodiesBy (now (vars .entry)) 0 a (recordsFrom m (now (s .entry)) 5)))) (now (out .exit)) r ⌝ }
+    requires { ⌜ Placed (now s) n (now places) k × (n ≤ 64) × (k ≤ 128) × Low (now vars) × (h < 2147483648) × (d + k < 2147483648) × (at + length (signedWords (rulesClauses h d (bodiesAt (now s) (now vars) (now places) 0 k))) < 4294967296) ⌝ }
+    ensures { λ r. ⌜ Wrote (now (out .entry)) at (signedWords (rulesClauses h d (bodiesAt (now (s .entry)) (now (vars .entry)) (now (places .entry)) 0 k))) (now (out .exit)) r ⌝ }
 {
     let mut pos = at;
     let mut rule = d;
-    let mut from = 5;
-    let mut left = m;
-    while 0 < left {
-        let next = next_record(s, from, left, n);
-        let kept = is_chosen(s, from, n, 0, a, vars);
-        pos = put_kept(out, pos, h, rule, s, from, n, vars, kept);
-        rule = pick(kept, rule + 1, rule);
-        from = next;
-        left -= 1;
+    let mut j = 0;
+    while j < k {
+        pos = put_rule(out, pos, h, rule, s, places[j], n, vars);
+        rule += 1;
+        j += 1;
     }
     pos
 }
@@ -105,6 +73,12 @@ fn put_first(out: &mut [i32], at: usize, h: u32, d: u32, k: u32) -> usize
     put_plain(out, end, 0)
 }
 
+// Where the next word goes, and the variable of the next rule.
+pub struct Ends {
+    pub at: usize,
+    pub rule: u32,
+}
+
 // The clauses of a copy of a with the variable h.
 fn put_copy(
     out: &mut [i32],
@@ -115,87 +89,96 @@ fn put_copy(
     h: u32,
     a: usize,
     vars: &[u32; 64],
+    places: &[usize; 128],
+    sets: &[u64; 128],
 ) -> Ends
-    requires { ⌜ Walk (now s) n m 5 × (n ≤ 64) × (m ≤ 128) × Low (now vars) × (h < 2147483648) × (ends .variables < 1000000) × (ends .clauses < 4294967296) × (ends .at + length (signedWords (copyClauses (suc (ends .variables)) (copyOf (now s) m h a (now vars)))) < 4294967296) ⌝ }
-    ensures { λ r. ⌜ Put (now (out .entry)) (now (out .exit)) (copyClauses (suc (ends .variables)) (copyOf (now (s .entry)) m h a (now (vars .entry)))) (length (bodiesBy (now (vars .entry)) 0 a (recordsFrom m (now (s .entry)) 5))) ends r ⌝ }
+    requires { ⌜ Indexed (now s) n m (now places) (now sets) × (n ≤ 64) × (m ≤ 128) × Low (now vars) × (h < 2147483648) × (ends .rule < 1000000) × (ends .at + length (copyWords (ends .rule) h (bodiesBy (now vars) 0 a (recordsFrom m (now s) 5))) < 4294967296) ⌝ }
+    ensures { λ r. ⌜ CopyPut h (bodiesBy (now (vars .entry)) 0 a (recordsFrom m (now (s .entry)) 5)) (now (out .entry)) (now (out .exit)) ends r ⌝ }
 {
-    let tally = count(s, n, m, 0, a, vars);
-    let d = (ends.variables + 1) as u32;
-    let next = put_first(out, ends.at, h, d, tally.rules);
-    let at = put_rules(out, next, h, d, s, n, m, a, vars);
+    let choice = choose(s, n, m, 0, a, vars, places, sets);
+    let k = choice.rules;
+    let kept = choice.places;
+    let d = ends.rule;
+    let next = put_first(out, ends.at, h, d, k as u32);
+    let at = put_rules(out, next, h, d, s, n, &kept, k, vars);
     Ends {
         at,
-        variables: ends.variables + tally.rules as usize,
-        clauses: ends.clauses + 1 + tally.clauses,
+        rule: d + k as u32,
     }
 }
 
 // The clauses of all copies, in sequence order.
-fn put_copies(out: &mut [i32], s: &[u8], q: &[u8], n: usize, m: usize, names: &[u8; 64]) -> Ends
-    requires { ⌜ Ready (now s) (now q) n m (now names) ⌝ }
-    ensures { λ r. ⌜ CopiesPut (now (s .entry)) (now (q .entry)) n m (now (out .entry)) (now (out .exit)) r ⌝ }
+fn put_copies(
+    out: &mut [i32],
+    s: &[u8],
+    q: &[u8],
+    n: usize,
+    m: usize,
+    names: &[u8; 64],
+    places: &[usize; 128],
+    sets: &[u64; 128],
+) -> usize
+    requires { ⌜ Ready (now s) (now q) n m (now names) × Indexed (now s) n m (now places) (now sets) ⌝ }
+    ensures { λ r. ⌜ Wrote (now (out .entry)) 0 (signedWords (copiesClauses (suc (length (unfoldedOf (now (s .entry)) (now (q .entry)) n m .copies))) (unfoldedOf (now (s .entry)) (now (q .entry)) n m .copies))) (now (out .exit)) r ⌝ }
 {
     let mut ends = Ends {
         at: 0,
-        variables: q.len() - 3,
-        clauses: 0,
+        rule: (q.len() - 2) as u32,
     };
     let mut copies = no_copies(n);
     let mut i = 3;
     while i < q.len() {
         copies = copies.next(q, i, n, names);
         let vars = copies.vars;
-        ends = put_copy(out, ends, s, n, m, copies.var, copies.atom, &vars);
+        let h = copies.var;
+        let a = copies.atom;
+        ends = put_copy(out, ends, s, n, m, h, a, &vars, places, sets);
         i += 1;
     }
-    ends
+    ends.at
 }
 
-// The clause of the record at an offset, where it is a constraint.
-fn put_constraint(
+// The clauses of the constraints at the first k places.
+fn put_backs(
     out: &mut [i32],
-    ends: Ends,
+    at: usize,
     s: &[u8],
-    from: usize,
     n: usize,
+    places: &[usize; 128],
+    k: usize,
     vars: &[u32; 64],
-) -> Ends
-    requires { ⌜ Known (now s) n from × (n ≤ 64) × Low (now vars) × (ends .clauses < 4294967296) × (ends .at + length (signedWords (constraintClauses (now vars) (recordAt (now s) from ∷ []))) < 4294967296) ⌝ }
-    ensures { λ r. ⌜ Put (now (out .entry)) (now (out .exit)) (constraintClauses (now (vars .entry)) (recordAt (now (s .entry)) from ∷ [])) 0 ends r ⌝ }
+) -> usize
+    requires { ⌜ Placed (now s) n (now places) k × (n ≤ 64) × (k ≤ 128) × Low (now vars) × (at + length (signedWords (map constraintClause (bodiesAt (now s) (now vars) (now places) 0 k))) < 4294967296) ⌝ }
+    ensures { λ r. ⌜ Wrote (now (out .entry)) at (signedWords (map constraintClause (bodiesAt (now (s .entry)) (now (vars .entry)) (now (places .entry)) 0 k))) (now (out .exit)) r ⌝ }
 {
-    if is_chosen(s, from, n, 1, 0, vars) {
-        let at = put_back(out, ends.at, s, from, n, vars);
-        return Ends {
-            at,
-            variables: ends.variables,
-            clauses: ends.clauses + 1,
-        };
+    let mut pos = at;
+    let mut j = 0;
+    while j < k {
+        pos = put_back(out, pos, s, places[j], n, vars);
+        j += 1;
     }
-    ends
+    pos
 }
 
 // The clauses of the constraints.
 fn put_constraints(
     out: &mut [i32],
-    ends: Ends,
+    at: usize,
     s: &[u8],
     n: usize,
     m: usize,
-    vars: &[u32; 64],
-) -> Ends
-    requires { ⌜ Walk (now s) n m 5 × (n ≤ 64) × Low (now vars) × (ends .clauses + length (constraintClauses (now vars) (recordsFrom m (now s) 5)) < 4294967296) × (ends .at + length (signedWords (constraintClauses (now vars) (recordsFrom m (now s) 5))) < 4294967296) ⌝ }
-    ensures { λ r. ⌜ Put (now (out .entry)) (now (out .exit)) (constraintClauses (now (vars .entry)) (recordsFrom m (now (s .entry)) 5)) 0 ends r ⌝ }
+    places: &[usize; 128],
+    sets: &[u64; 128],
+) -> usize
+    requires { ⌜ Walk (now s) n m 5 × Indexed (now s) n m (now places) (now sets) × (n ≤ 64) × (m ≤ 128) × (at + length (signedWords (map constraintClause (lastBodies (recordsFrom m (now s) 5)))) < 4294967296) ⌝ }
+    ensures { λ r. ⌜ Wrote (now (out .entry)) at (signedWords (map constraintClause (lastBodies (recordsFrom m (now (s .entry)) 5)))) (now (out .exit)) r ⌝ }
 {
-    let mut done = ends;
-    let mut from = 5;
-    let mut left = m;
-    while 0 < left {
-        let next = next_record(s, from, left, n);
-        done = put_constraint(out, done, s, from, n, vars);
-        from = next;
-        left -= 1;
-    }
-    done
+    let table = last_copies();
+    let vars = table.vars;
+    let choice = choose(s, n, m, 1, 0, &vars, places, sets);
+    let k = choice.rules;
+    let chosen = choice.places;
+    put_backs(out, at, s, n, &chosen, k, &vars)
 }
 
 // All clauses.
@@ -206,12 +189,38 @@ pub fn put_clauses(
     n: usize,
     m: usize,
     names: &[u8; 64],
-) -> Ends
+) -> usize
     requires { ⌜ Ready (now s) (now q) n m (now names) ⌝ }
-    ensures { λ r. ⌜ ClausesPut (now (s .entry)) (now (q .entry)) n m (now (out .entry)) (now (out .exit)) r ⌝ }
+    ensures { λ r. ⌜ Wrote (now (out .entry)) 0 (signedWords (clauses (unfoldedOf (now (s .entry)) (now (q .entry)) n m))) (now (out .exit)) r ⌝ }
 {
-    let ends = put_copies(out, s, q, n, m, names);
-    let table = last_copies();
-    let vars = table.vars;
-    put_constraints(out, ends, s, n, m, &vars)
+    let index = index_of(s, n, m);
+    let places = index.places;
+    let sets = index.pos;
+    let at = put_copies(out, s, q, n, m, names, &places, &sets);
+    put_constraints(out, at, s, n, m, &places, &sets)
+}
+
+// How many words the clauses have, how many variables, and how many clauses there are.
+pub struct Numbers {
+    pub words: usize,
+    pub variables: usize,
+    pub clauses: usize,
+}
+
+// A copy has two words and one clause of its own, a rule six words, two clauses and a variable, an atom of its body four words
+// and a clause; a constraint is one clause, of one word and one for each atom.
+pub fn numbers_of(s: &[u8], q: &[u8], n: usize, m: usize, names: &[u8; 64]) -> Numbers
+    requires { ⌜ Ready (now s) (now q) n m (now names) ⌝ }
+    ensures { λ r. ⌜ NumbersOf (unfoldedOf (now (s .entry)) (now (q .entry)) n m) r ⌝ }
+{
+    let t = q.len() - 3;
+    let totals = totals_of(s, q, n, m, names);
+    let rules = totals.rules;
+    let atoms = totals.atoms;
+    let constraints = totals.constraints;
+    Numbers {
+        words: 2 * t + 6 * rules + 4 * atoms + constraints + totals.literals,
+        variables: t + rules,
+        clauses: t + 2 * rules + atoms + constraints,
+    }
 }

@@ -12,7 +12,7 @@ use Rattle.asp.specs.Program.{Program, wellFormed}
 use Rattle.unfolding.specs.Unfolded.{Copy, keptFor, variable, copiesFrom, unfolded}
 use Rattle.sheet.specs.Sheet.{recordsFrom, programOf}
 use Rattle.sheet.proofs.Walk.{walk-sound, walk-formed}
-use Rattle.copies.specs.Chosen.{bodiesBy}
+use Rattle.copies.specs.Bodies.{bodiesBy}
 use Rattle.copies.specs.Made.{Table, Made}
 use Rattle.copies.specs.Ready.{Ready, unfoldedOf}
 use Rattle.copies.specs.declared.Copies.{Copies}

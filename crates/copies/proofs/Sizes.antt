@@ -16,7 +16,6 @@ use Rattle.unfolding.specs.Unfolded.{Copy, last, renamed, replaced, isKept, kep
 use Rattle.unfolding.proofs.Numbering.{counted, copies-length}
 use Rattle.sheet.specs.Sheet.{Record, recordsFrom, rulesOf, constraintsOf, programOf}
 use Rattle.sheet.specs.Sequence.{entries}
-use Rattle.copies.specs.Chosen.{chosen, bodyBy, bodiesBy}
 use Rattle.copies.specs.Ready.{Ready, unfoldedOf}
 use Rattle.copies.proofs.Tracking.{Short, walk-short, records-length}
 
@@ -40,10 +39,6 @@ filter-size : {A : Type 0} (p : A → Bool) (l : List A) → length (filter p l)
 unfolding filter
 filter-size p [] = omega arith
 filter-size p (x ∷ l) = let h = filter-size p l in by-bool (p x) (λ t. rw t (omega arith)) (λ f. rw f (omega arith))
-
-pub bodies-few : (vars : List ℕ) (kind a : ℕ) (rs : List Record) → length (bodiesBy vars kind a rs) ≤ length rs
-unfolding bodiesBy
-bodies-few vars kind a rs = let e = length-map (filter (chosen vars kind a) rs) (bodyBy vars) in let f = filter-size (chosen vars kind a) rs in omega arith
 
 renamed-size : (f : ℕ → ℕ) (b : Body) → length (renamed f b .pos) + length (renamed f b .neg) ≡ length (b .pos) + length (b .neg)
 unfolding renamed

@@ -21,7 +21,7 @@ use Rattle.sheet.specs.Format.{end, posOf, negOf, kindFits, listFits, listsFit,
 use Rattle.sheet.specs.Sheet.{Record, recordAt, recordsFrom, rulesOf, constraintsOf, Walk}
 use Rattle.sheet.proofs.Walk.{Sound, walk-step}
 use Rattle.components.specs.Table.{NamesOf}
-use Rattle.copies.specs.Chosen.{stands, chosen, bodyBy, bodiesBy}
+use Rattle.copies.specs.Bodies.{stands, chosen, bodyBy, bodiesBy, lastBodies}
 use Rattle.copies.specs.Made.{standing, Table, Made}
 use Rattle.copies.specs.declared.Copies.{Copies}
 use Rattle.copies.proofs.Choosing.{bodies-none, bodies-yes, bodies-no}
@@ -170,8 +170,8 @@ module _ (n : ℕ) (few : n ≤ 64) (vars : List ℕ) (T : Table last vars) wher
     unfolding bodyBy renamed
     body-last = ap (λ ps. record { pos = ps; neg = map last (r .body .neg) }) (map-cong (λ b. getD vars b 0) last (r .body .pos) (λ b m. T .is b (pos-low b m)))
 
-  pub constraints-same : (rs : List Record) → ((r : Record) → List·Memᴰ r rs → Sound n r) → bodiesBy vars 1 0 rs ≡ map (renamed last) (constraintsOf rs)
-  unfolding constraintsOf filter
+  pub constraints-same : (rs : List Record) → ((r : Record) → List·Memᴰ r rs → Sound n r) → bodiesBy vars 1 0 rs ≡ lastBodies rs
+  unfolding lastBodies constraintsOf filter
   constraints-same [] h = bodies-none vars 1 0
   constraints-same (r ∷ rs) h =
       let rest = constraints-same rs (λ x m. h x (List·Memᴰ·tail m)) in

@@ -1,39 +1,25 @@
--- Which records are chosen by a table of variables, and their bodies over those variables.
-use mathlib.Core.Bool.{Bool, not, _&&_, cond}
-use mathlib.Core.List.{List, [], _∷_, map}
-use Prim.Native.Nat.{ℕ, _+_}
-use lib.Dec.{eqb}
-use lib.ListN.{length, getD}
-use Rattle.lists.specs.Lists.{all, filter}
-use Rattle.asp.specs.Program.{Body}
-use Rattle.unfolding.specs.Unfolded.{Copy, last, renamed}
+-- What the choice of records promises.
+use mathlib.Core.Bool.{Bool}
+use mathlib.Core.List.{List}
+use mathlib.Core.Path.{_≡_}
+use Prim.Native.Nat.{ℕ, _≤_, _<_}
+use Rattle.bits.specs.Sets.{has}
 use Rattle.sheet.specs.Sheet.{Record, recordsFrom}
+use Rattle.copies.specs.Bodies.{stands, chosen, bodiesBy, bodiesAt, atomCount}
+use Rattle.copies.specs.Indexed.{Placed}
+use Rattle.copies.specs.declared.Choice.{Choice}
 
--- A variable stands for the atom.
-abbrev pub stands : List ℕ → ℕ → Bool
-stands vars b = not (eqb (getD vars b 0) 0)
+-- The set of the atoms below 64 for which a variable stands.
+pub record Standing (vars : List ℕ) (set : ℕ) : Type 0 where
+  pub members : (b : ℕ) → b < 64 → has set b ≡ stands vars b
 
--- The variable of a positive atom, by the table, or of a negative one, its last copy.
-unfoldable pub variableBy : List ℕ → Bool → ℕ → ℕ
-variableBy vars plain b = cond plain (getD vars b 0) (last b)
+-- Whether the record is chosen, by the set of those atoms.
+pub record Chooses (set kind a : ℕ) (x : Record) (r : Bool) : Type 0 where
+  pub is : (vars : List ℕ) → Standing vars set → r ≡ chosen vars kind a x
 
--- The record is of this kind, with this head, and a variable stands for each of its positive atoms.
-unfoldable pub chosen : List ℕ → ℕ → ℕ → Record → Bool
-chosen vars kind a r = eqb (r .kind) kind && (eqb (r .head) a && all (stands vars) (r .body .pos))
-
--- The body over the variables: negative atoms by their last copies.
-unfoldable pub bodyBy : List ℕ → Record → Body
-bodyBy vars r = renamed (λ b. getD vars b 0) (r .body)
-
--- The bodies of the chosen records.
-unfoldable pub bodiesBy : List ℕ → ℕ → ℕ → List Record → List Body
-bodiesBy vars kind a rs = map (bodyBy vars) (filter (chosen vars kind a) rs)
-
--- How many clauses bodies give as rules: two, and one for each atom.
-unfoldable pub clauseCount : List Body → ℕ
-clauseCount [] = 0
-clauseCount (b ∷ bs) = length (b .pos) + length (b .neg) + 2 + clauseCount bs
-
--- The copy of a with the variable h, whose rules the table chooses.
-unfoldable pub copyOf : List ℕ → ℕ → ℕ → ℕ → List ℕ → Copy
-copyOf s m h a vars = record { atom = a; var = h; kept = bodiesBy vars 0 a (recordsFrom m s 5) }
+-- The places of the chosen records of m, and how many atoms their bodies have.
+pub record Chosen (s : List ℕ) (n m : ℕ) (vars : List ℕ) (kind a : ℕ) (r : Choice) : Type 0 where
+  pub placed : Placed s n (r .places) (r .rules)
+  pub bodies : bodiesAt s vars (r .places) 0 (r .rules) ≡ bodiesBy vars kind a (recordsFrom m s 5)
+  pub atoms : r .atoms ≡ atomCount (bodiesBy vars kind a (recordsFrom m s 5))
+  pub few : r .rules ≤ m

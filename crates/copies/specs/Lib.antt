@@ -1,4 +1,6 @@
-pub mod Chosen
+pub mod Bodies
 pub mod Made
-pub mod Counted
+pub mod Indexed
+pub mod Chosen
 pub mod Ready
+pub mod Totals

@@ -18,8 +18,8 @@ use Rattle.components.specs.Table.{NamesOf}
 use Rattle.components.specs.declared.Analysis.{Analysis}
 use Rattle.writer.specs.Wrote.{Wrote}
 use Rattle.copies.specs.Ready.{Ready, unfoldedOf}
-use Rattle.completion.specs.Ends.{ClausesPut}
-use Rattle.completion.specs.declared.Ends.{Ends}
+use Rattle.completion.specs.Ends.{NumbersOf}
+use Rattle.completion.specs.declared.Numbers.{Numbers}
 use Rattle.core.specs.Examined.{Examined}
 use Rattle.core.specs.Outcome as answer
 use Rattle.core.specs.Outcome.{answered, Emits, Writes}
@@ -84,17 +84,17 @@ module _ (L : Limits) (s q : List ℕ) (r : Analysis) (E : Examined L s q r) whe
     unfolding clauseNumbers clausesOf variablesOf
     numbers = ap (λ P. variables (unfolded P (entries q)) ∷ length (clauses (unfolded P (entries q))) ∷ []) same
 
-    pub clauses-full : (old : List ℤ) (k : ℕ) → k ≡ length (signedWords (clauses (unfoldedOf s q (r .atoms) (r .records)))) → length old < k
-        → ClausesPromise L s q old old (answer.clausesOf (written.Refused 10))
-    clauses-full old k e l = emits-full (testQuestions L s q) (clauseWords s q) (clauseNumbers s q) old passed (let f = e ∙ ap length derived in omega arith)
+    module _ (k : Numbers) (N : NumbersOf (unfoldedOf s q (r .atoms) (r .records)) k) where
+      pub clauses-full : (old : List ℤ) → length old < k .words → ClausesPromise L s q old old (answer.clausesOf (written.Refused 10))
+      clauses-full old l = emits-full (testQuestions L s q) (clauseWords s q) (clauseNumbers s q) old passed (let f = N .words ∙ ap length derived in omega arith)
 
-    pub clauses-done : (old new : List ℤ) (k : ℕ) (ends : Ends) → k ≡ length (signedWords (clauses (unfoldedOf s q (r .atoms) (r .records)))) → k ≤ length old
-        → ClausesPut s q (r .atoms) (r .records) old new ends → ClausesPromise L s q old new (answer.clausesOf (written.Written (ends .at) (ends .variables) (ends .clauses)))
-    clauses-done old new k ends e l W =
-        let values : ends .variables ∷ ends .clauses ∷ [] ≡ clauseNumbers s q = ap₂ (λ (v c : ℕ). v ∷ c ∷ []) (W .variables) (W .clauses) ∙ numbers in
-        subst (λ vs. Emits (clausesQuestions L (length old) s q) (clauseWords s q) (clauseNumbers s q) old new (answered (ends .at ∷ vs))) (sym values)
-        (emits-done (testQuestions L s q) (clauseWords s q) (clauseNumbers s q) old new (ends .at) passed (let f = e ∙ ap length derived in omega arith)
-        (subst (λ ws. Wrote old 0 ws new (ends .at)) derived (W .wrote)))
+      pub clauses-done : (old new : List ℤ) (next : ℕ) → k .words ≤ length old → Wrote old 0 (signedWords (clauses (unfoldedOf s q (r .atoms) (r .records)))) new next
+          → ClausesPromise L s q old new (answer.clausesOf (written.Written next (k .variables) (k .clauses)))
+      clauses-done old new next l W =
+          let values : k .variables ∷ k .clauses ∷ [] ≡ clauseNumbers s q = ap₂ (λ (v c : ℕ). v ∷ c ∷ []) (N .variables) (N .clauses) ∙ numbers in
+          subst (λ vs. Emits (clausesQuestions L (length old) s q) (clauseWords s q) (clauseNumbers s q) old new (answered (next ∷ vs))) (sym values)
+          (emits-done (testQuestions L s q) (clauseWords s q) (clauseNumbers s q) old new next passed (let f = N .words ∙ ap length derived in omega arith)
+          (subst (λ ws. Wrote old 0 ws new next) derived W))
 
   pub clauses-refused : (old : List ℤ) → (r .refusal ≡ 0 → ⊥) → ClausesPromise L s q old old (answer.clausesOf (written.Refused (r .refusal)))
   clauses-refused old ne = emits-refused (testQuestions L s q) (clauseWords s q) (clauseNumbers s q) old (r .refusal) (E .says) ne

@@ -1,6 +1,7 @@
 // The operations, with their limits as parameters.
 use bits::byte_at;
 use chains::passes;
+use completion::numbers_of;
 use completion::put_clauses;
 use components::Analysis;
 use components::analyse;
@@ -12,11 +13,12 @@ use sheet::next_record;
 use sheet::record_end;
 use sheet::sequence_fits;
 use unfold::put_unfolded;
+use unfold::unfolded_length;
 use writer::put;
 ghost use mathlib.Core.Path.{_≡_};
 ghost use mathlib.Core.List.{_∷_, []};
 ghost use mathlib.Core.Bool.{cond};
-ghost use Prim.Native.Nat.{ℕ, _+_, _≤_, _<_};
+ghost use Prim.Native.Nat.{_+_, _≤_, _<_};
 ghost use lib.Dec.{eqb};
 ghost use lib.ListN.{length};
 ghost use Rattle.sheet.specs.Format.{atomsByte, recordsByte, positives};
@@ -28,9 +30,6 @@ ghost use Rattle.outputs.specs.Names.{blocksOf};
 ghost use Rattle.writer.specs.Wrote.{Wrote};
 ghost use Rattle.core.specs.Bodies.{Placed, BodyFound};
 ghost use Rattle.core.specs.Operations.{readQuestions, bodyQuestions, componentsQuestions, defaultQuestions, testQuestions, unfoldedQuestions, countQuestions, countValues};
-ghost use Rattle.unfolding.specs.Unfolded.{words};
-ghost use Rattle.unfolding.specs.Clauses.{clauses, signedWords};
-ghost use Rattle.copies.specs.Ready.{Ready, unfoldedOf};
 ghost use Rattle.core.specs.Examined.{Examined};
 ghost use Rattle.core.specs.Demands.{ClausesPromise};
 
@@ -274,15 +273,6 @@ pub fn test(limits: Limits, s: &[u8], q: &[u8]) -> TestAnswer
     TestAnswer::Passed
 }
 
-// How many words the unfolded program has.
-fn unfolded_length(s: &[u8], q: &[u8], n: usize, m: usize, names: &[u8; 64]) -> usize
-    requires { ⌜ Ready (now s) (now q) n m (now names) ⌝ }
-    ensures { λ r. ⌜ r ≡ length (words (unfoldedOf (now (s .entry)) (now (q .entry)) n m)) ⌝ }
-{
-    let mut none = [0u32; 0];
-    put_unfolded(&mut none, s, q, n, m, names)
-}
-
 // Writing the unfolded program.
 pub fn unfolded(limits: Limits, s: &[u8], q: &[u8], out: &mut [u32]) -> WriteAnswer
     requires { ⌜ (limits .atoms ≤ 64) × (limits .records ≤ 128) × (limits .component ≤ 10) × (limits .entries ≤ 640) ⌝ }
@@ -303,16 +293,6 @@ pub fn unfolded(limits: Limits, s: &[u8], q: &[u8], out: &mut [u32]) -> WriteAns
     WriteAnswer::Length(length)
 }
 
-// How many words the clauses have.
-fn clauses_length(s: &[u8], q: &[u8], n: usize, m: usize, names: &[u8; 64]) -> usize
-    requires { ⌜ Ready (now s) (now q) n m (now names) ⌝ }
-    ensures { λ r. ⌜ r ≡ length (signedWords (clauses (unfoldedOf (now (s .entry)) (now (q .entry)) n m))) ⌝ }
-{
-    let mut none = [0i32; 0];
-    let ends = put_clauses(&mut none, s, q, n, m, names);
-    ends.at
-}
-
 // Writing clauses.
 pub fn clauses(limits: Limits, s: &[u8], q: &[u8], out: &mut [i32]) -> ClausesAnswer
     requires { ⌜ (limits .atoms ≤ 64) × (limits .records ≤ 128) × (limits .component ≤ 10) × (limits .entries ≤ 640) ⌝ }
@@ -326,11 +306,12 @@ pub fn clauses(limits: Limits, s: &[u8], q: &[u8], out: &mut [i32]) -> ClausesAn
     let n = a.atoms;
     let m = a.records;
     let names = a.names;
-    if out.len() < clauses_length(s, q, n, m, &names) {
+    let numbers = numbers_of(s, q, n, m, &names);
+    if out.len() < numbers.words {
         return ClausesAnswer::Refused(10);
     }
-    let ends = put_clauses(out, s, q, n, m, &names);
-    ClausesAnswer::Written(ends.at, ends.variables, ends.clauses)
+    let length = put_clauses(out, s, q, n, m, &names);
+    ClausesAnswer::Written(length, numbers.variables, numbers.clauses)
 }
 
 fn verdict_on(states: u64) -> Verdict

@@ -3,3 +3,4 @@ pub mod Members
 pub mod Nodup
 pub mod Sublists
 pub mod Exchange
+pub mod Tables

@@ -14,8 +14,8 @@ use Rattle.unfolding.specs.Clauses.{Literal, negative, negated, Clause, signed,
 use Rattle.bits.specs.Sets.{ByteAt}
 use Rattle.writer.specs.Wrote.{Wrote}
 use Rattle.writer.proofs.Writing.{Left, wrote-append}
-use Rattle.copies.specs.Chosen.{variableBy}
-use Rattle.copies.proofs.Choosing.{standing-low}
+use Rattle.copies.specs.Bodies.{variableBy}
+use Rattle.copies.proofs.Choosing.{byte-low}
 use Rattle.literals.specs.Literals.{literalOf, literalBy, pairs, flipped, Low}
 
 -- One literal.
@@ -55,7 +55,7 @@ two-size k l = refl
 -- The variables of a list's atoms.
 module _ (vars : List ℕ) (plain : Bool) (l : List ℕ) where
   pub variable-small : (i x v : ℕ) → Low vars → below 64 l ≡ true → i < length l → ByteAt l i x → v ≡ variableBy vars plain x → v < 2147483648
-  variable-small i x v L e h B f = subst (λ w. w < 2147483648) (sym f) (by-sign vars L plain x (standing-low vars l i x e h B))
+  variable-small i x v L e h B f = subst (λ w. w < 2147483648) (sym f) (by-sign vars L plain x (byte-low l i x e h B))
 
   -- The literals from i on, negated.
   abbrev pub flippedFrom : ℕ → List ℤ

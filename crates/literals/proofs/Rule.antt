@@ -14,7 +14,7 @@ use Rattle.sheet.specs.Format.{part, posOf, negOf}
 use Rattle.sheet.specs.Sheet.{recordAt}
 use Rattle.writer.specs.Wrote.{Wrote}
 use Rattle.writer.proofs.Writing.{wrote-append}
-use Rattle.copies.specs.Chosen.{variableBy, bodyBy}
+use Rattle.copies.specs.Bodies.{variableBy, bodyBy}
 use Rattle.literals.specs.Literals.{literalOf, literalBy, pairs, bodyPairs, flipped}
 use Rattle.literals.proofs.Lists.{flipped-size, two-size}
 

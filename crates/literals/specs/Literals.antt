@@ -5,7 +5,7 @@ use Prim.Native.Nat.{ℕ, _<_}
 use lib.ListN.{getD}
 use Rattle.asp.specs.Program.{Body}
 use Rattle.unfolding.specs.Clauses.{Literal, positive, negative, negated, Clause, literals}
-use Rattle.copies.specs.Chosen.{variableBy}
+use Rattle.copies.specs.Bodies.{variableBy}
 
 -- The literal v or -v.
 unfoldable pub literalOf : Bool → ℕ → Literal

@@ -11,7 +11,7 @@ ghost use Rattle.lists.specs.Lists.{below};
 ghost use Rattle.unfolding.specs.Clauses.{ruleClauses, constraintClause, signed, clauseWords, signedWords};
 ghost use Rattle.sheet.specs.Sheet.{Known, recordAt};
 ghost use Rattle.writer.specs.Wrote.{Wrote};
-ghost use Rattle.copies.specs.Chosen.{bodyBy};
+ghost use Rattle.copies.specs.Bodies.{bodyBy};
 ghost use Rattle.literals.specs.Literals.{literalOf, pairs, bodyPairs, flipped, Low};
 
 // The word v.

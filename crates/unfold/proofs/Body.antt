@@ -1,25 +1,23 @@
--- Laws of writing the words of chosen records.
+-- Laws of writing the words of records.
 use mathlib.Core.Bool.{Bool, true, false}
-use mathlib.Core.List.{List, [], _∷_, _++_, map, flatMap, append-nil}
-use mathlib.Core.Path.{_≡_, refl, sym, _∙_, ap, subst}
+use mathlib.Core.List.{List, [], _∷_, _++_, map, flatMap}
+use mathlib.Core.Path.{_≡_, sym, _∙_, ap, subst}
 use Prim.Native.Nat.{ℕ, _+_, _-_, _≤_, _<_}
-use native.Mathlib.Nat.{add-zero}
 use native.Mathlib.Numerals.{add-one}
 use native.Mathlib.Omega.{arith}
 use lib.ListN.{length, length-append, length-map, getD, drop, drop-of-length-le}
 use lib.Seq.{drop-cons}
-use Rattle.lists.proofs.Bools.{by-bool}
-use Rattle.unfolding.specs.Unfolded.{last, renamed, bodyWords, copyWords}
+use Rattle.unfolding.specs.Unfolded.{last, renamed, bodyWords}
 use Rattle.bits.specs.Sets.{ByteAt}
 use Rattle.sheet.specs.Format.{part}
-use Rattle.sheet.specs.Sheet.{Record, recordAt, recordsFrom, Known, Walk, Stepped}
+use Rattle.sheet.specs.Sheet.{recordAt, recordsFrom, Known}
 use Rattle.writer.specs.Wrote.{Wrote}
-use Rattle.writer.proofs.Writing.{Left, left-start, left-turn, left-end, wrote-append}
-use Rattle.copies.specs.Chosen.{variableBy, chosen, bodyBy, bodiesBy, copyOf}
-use Rattle.copies.specs.Counted.{Counted}
-use Rattle.copies.specs.declared.Tally.{Tally}
-use Rattle.copies.proofs.Choosing.{bodies-yes, bodies-no, bodies-none, part-length}
-use Rattle.unfold.specs.Words.{counted, bodiesWords}
+use Rattle.writer.proofs.Writing.{Left, left-start, left-turn, left-end, left-length, wrote-append}
+use Rattle.copies.specs.Bodies.{variableBy, bodyBy, bodiesBy, bodiesAt}
+use Rattle.copies.specs.Chosen.{Chosen}
+use Rattle.copies.specs.declared.Choice.{Choice}
+use Rattle.copies.proofs.Choosing.{part-length, bodies-at-size, bodyAt, bodies-first, bodies-over}
+use Rattle.unfold.specs.Words.{bodiesWords, countedWords}
 
 -- The atoms of a list from i on.
 module _ (vars : List ℕ) (plain : Bool) (l : List ℕ) where
@@ -87,73 +85,58 @@ module _ (vars s : List ℕ) (n from : ℕ) (K : Known s n from) (k p : ℕ) (A 
             subst (λ ws. Wrote old at ws new r) (sym body-words)
             (wrote-append _ _ _ _ _ _ _ _ W₁ (wrote-append _ _ _ _ _ _ _ _ W₂ (wrote-append _ _ _ _ _ _ _ _ W₃ W₄)))
 
--- A record that may be chosen.
-module _ (vars : List ℕ) (kind a : ℕ) (x : Record) (b : Bool) (e : b ≡ chosen vars kind a x) where
-  chosen-words : b ≡ true → bodiesWords vars kind a (x ∷ []) ≡ bodyWords (bodyBy vars x)
-  unfolding bodiesWords flatMap
-  chosen-words t = ap (flatMap bodyWords) (bodies-yes vars kind a x [] (sym e ∙ t) ∙ ap (λ l. bodyBy vars x ∷ l) (bodies-none vars kind a)) ∙ append-nil (bodyWords (bodyBy vars x))
+-- The loop over the places.
+pub record BodiesLeft (s vars places : List ℕ) (k : ℕ) (old : List ℕ) (at : ℕ) (cur : List ℕ) (pos j : ℕ) : Type 0 where
+  pub rest : Left old at (bodiesWords (bodiesAt s vars places 0 k)) cur pos (bodiesWords (bodiesAt s vars places j (k - j)))
 
-  pub chosen-room : (at : ℕ) → at + length (bodiesWords vars kind a (x ∷ [])) < 4294967296 → b ≡ true → at + length (bodyWords (bodyBy vars x)) < 4294967296
-  chosen-room at h t = subst (λ ws. at + length ws < 4294967296) (chosen-words t) h
+module _ (s vars places : List ℕ) (k : ℕ) (old : List ℕ) (at : ℕ) where
+  abbrev all-words : List ℕ
+  all-words = bodiesWords (bodiesAt s vars places 0 k)
 
-  pub chosen-wrote : (old new : List ℕ) (at r : ℕ) → b ≡ true → Wrote old at (bodyWords (bodyBy vars x)) new r → Wrote old at (bodiesWords vars kind a (x ∷ [])) new r
-  chosen-wrote old new at r t W = subst (λ ws. Wrote old at ws new r) (sym (chosen-words t)) W
+  pub bodies-start : BodiesLeft s vars places k old at old at 0
+  bodies-start = record { rest = left-start old at all-words _ (ap (λ i. bodiesWords (bodiesAt s vars places 0 i)) (let e : k - 0 ≡ k = omega arith in e)) }
 
-  pub chosen-none : (old : List ℕ) (at : ℕ) → b ≡ false → Wrote old at (bodiesWords vars kind a (x ∷ [])) old at
-  unfolding bodiesWords flatMap
-  chosen-none old at f =
-      subst (λ ws. Wrote old at ws old at) (sym (ap (flatMap bodyWords) (bodies-no vars kind a x [] (sym e ∙ f) ∙ bodies-none vars kind a))) (record { stored = refl; moved = sym (add-zero at) })
+  module _ (cur : List ℕ) (pos j : ℕ) (L : BodiesLeft s vars places k old at cur pos j) where
+    module _ (lt : j < k) where
+      abbrev here : List ℕ
+      here = bodyWords (bodyAt s vars places j)
 
--- The loop over the records.
-pub record BodiesLeft (vars : List ℕ) (kind a : ℕ) (s : List ℕ) (n m : ℕ) (old : List ℕ) (at : ℕ) (cur : List ℕ) (pos from left : ℕ) : Type 0 where
-  pub walk : Walk s n left from
-  pub rest : Left old at (bodiesWords vars kind a (recordsFrom m s 5)) cur pos (bodiesWords vars kind a (recordsFrom left s from))
+      step : bodiesWords (bodiesAt s vars places j (k - j)) ≡ here ++ bodiesWords (bodiesAt s vars places (j + 1) (k - (j + 1)))
+      unfolding bodiesWords flatMap
+      step = ap bodiesWords (bodies-first s vars places j k lt)
 
-module _ (vars : List ℕ) (kind a : ℕ) (s : List ℕ) (n m : ℕ) (old : List ℕ) (at : ℕ) where
-  pub bodies-start : Walk s n m 5 → BodiesLeft vars kind a s n m old at old at 5 m
-  bodies-start W = record { walk = W; rest = left-start old at (bodiesWords vars kind a (recordsFrom m s 5)) (bodiesWords vars kind a (recordsFrom m s 5)) refl }
+      pub bodies-room : at + length all-words < 4294967296 → pos + length here < 4294967296
+      bodies-room h = let e = L .rest .ends in let f = ap length step ∙ length-append here (bodiesWords (bodiesAt s vars places (j + 1) (k - (j + 1)))) in omega arith
 
-  bodies-split : (x : Record) (rs : List Record) → bodiesWords vars kind a (x ∷ rs) ≡ bodiesWords vars kind a (x ∷ []) ++ bodiesWords vars kind a rs
-  unfolding bodiesWords flatMap
-  bodies-split x rs =
-      by-bool (chosen vars kind a x)
-      (λ t. ap (flatMap bodyWords) (bodies-yes vars kind a x rs t)
-      ∙ ap (λ ws. ws ++ flatMap bodyWords (bodiesBy vars kind a rs)) (sym (chosen-words vars kind a x true (sym t) refl)))
-      (λ f. ap (flatMap bodyWords) (bodies-no vars kind a x rs f)
-      ∙ ap (λ bs. flatMap bodyWords bs ++ flatMap bodyWords (bodiesBy vars kind a rs)) (sym (bodies-no vars kind a x [] f ∙ bodies-none vars kind a)))
+      pub bodies-turn : (new : List ℕ) (next : ℕ) → Wrote cur pos here new next → BodiesLeft s vars places k old at new next (j + 1)
+      bodies-turn new next W = record { rest = left-turn old at all-words cur new _ _ _ pos next (L .rest) step W }
 
-  module _ (cur : List ℕ) (pos from left r : ℕ) (L : BodiesLeft vars kind a s n m old at cur pos from left) (S : Stepped s n left from r) where
-    step : bodiesWords vars kind a (recordsFrom left s from) ≡ bodiesWords vars kind a (recordAt s from ∷ []) ++ bodiesWords vars kind a (recordsFrom (left - 1) s r)
-    step = ap (bodiesWords vars kind a) (S .list) ∙ bodies-split (recordAt s from) (recordsFrom (left - 1) s r)
+    pub bodies-length : length cur ≡ length old
+    bodies-length = left-length old at all-words cur _ pos (L .rest)
 
-    pub bodies-room : at + length (bodiesWords vars kind a (recordsFrom m s 5)) < 4294967296 → pos + length (bodiesWords vars kind a (recordAt s from ∷ [])) < 4294967296
-    bodies-room h = let e = L .rest .ends in let f = ap length step ∙ length-append (bodiesWords vars kind a (recordAt s from ∷ [])) (bodiesWords vars kind a (recordsFrom (left - 1) s r)) in omega arith
-
-    pub bodies-turn : (new : List ℕ) (next : ℕ) → Wrote cur pos (bodiesWords vars kind a (recordAt s from ∷ [])) new next → BodiesLeft vars kind a s n m old at new next r (left - 1)
-    bodies-turn new next W = record { walk = S .rest; rest = left-turn old at (bodiesWords vars kind a (recordsFrom m s 5)) cur new _ _ _ pos next (L .rest) step W }
-
-  pub bodies-end : (cur : List ℕ) (pos from left : ℕ) → BodiesLeft vars kind a s n m old at cur pos from left → left ≤ 0 → Wrote old at (bodiesWords vars kind a (recordsFrom m s 5)) cur pos
-  unfolding recordsFrom bodiesWords flatMap
-  bodies-end cur pos from left L z =
-      left-end old at (bodiesWords vars kind a (recordsFrom m s 5)) cur _ pos (L .rest)
-      (ap (λ k. bodiesWords vars kind a (recordsFrom k s from)) (let e : left ≡ 0 = omega arith in e) ∙ ap (flatMap bodyWords) (bodies-none vars kind a))
+    pub bodies-end : k ≤ j → Wrote old at all-words cur pos
+    unfolding bodiesWords flatMap
+    bodies-end l = left-end old at all-words cur _ pos (L .rest) (ap bodiesWords (bodies-over s vars places j k l))
 
 -- The number of chosen records, then their bodies.
-module _ (vars : List ℕ) (kind a : ℕ) (rs : List Record) (T : Tally) (C : Counted vars kind a rs T) (old mid : List ℕ) (at next : ℕ) (W : Wrote old at (T .rules ∷ []) mid next) where
-  pub counted-room : at + length (counted (bodiesBy vars kind a rs)) < 4294967296 → next + length (bodiesWords vars kind a rs) < 4294967296
-  unfolding counted bodiesWords
-  counted-room h = let m = W .moved in omega arith
+module _ (s : List ℕ) (n m : ℕ) (vars : List ℕ) (kind a : ℕ) (c : Choice) (C : Chosen s n m vars kind a c) (old mid : List ℕ) (at next : ℕ) (W : Wrote old at (c .rules ∷ []) mid next) where
+  abbrev those : List ℕ
+  those = bodiesWords (bodiesAt s vars (c .places) 0 (c .rules))
 
-  pub counted-wrote : (new : List ℕ) (r : ℕ) → Wrote mid next (bodiesWords vars kind a rs) new r → Wrote old at (counted (bodiesBy vars kind a rs)) new r
-  unfolding counted bodiesWords
-  counted-wrote new r U = subst (λ k. Wrote old at (k ∷ flatMap bodyWords (bodiesBy vars kind a rs)) new r) (C .rules) (wrote-append _ _ _ _ _ _ _ _ W U)
+  counted-words : countedWords (bodiesBy vars kind a (recordsFrom m s 5)) ≡ (c .rules ∷ []) ++ those
+  unfolding countedWords
+  counted-words = ap countedWords (sym (C .bodies)) ∙ ap (λ k. k ∷ those) (bodies-at-size s vars (c .places) 0 (c .rules))
+
+  pub counted-room : at + length (countedWords (bodiesBy vars kind a (recordsFrom m s 5))) < 4294967296 → next + length those < 4294967296
+  counted-room h = let m = W .moved in let e = ap length counted-words in omega arith
+
+  pub counted-wrote : (new : List ℕ) (r : ℕ) → Wrote mid next those new r → Wrote old at (countedWords (bodiesBy vars kind a (recordsFrom m s 5))) new r
+  counted-wrote new r U = subst (λ ws. Wrote old at ws new r) (sym counted-words) (wrote-append _ _ _ _ _ _ _ _ W U)
 
 -- A copy.
-module _ (vars s : List ℕ) (m h a : ℕ) (old mid : List ℕ) (at next : ℕ) (W : Wrote old at (h ∷ []) mid next) where
-  pub copy-room : at + length (copyWords (copyOf s m h a vars)) < 4294967296 → next + length (counted (bodiesBy vars 0 a (recordsFrom m s 5))) < 4294967296
-  unfolding counted copyWords copyOf
+module _ (h : ℕ) (ws old mid : List ℕ) (at next : ℕ) (W : Wrote old at (h ∷ []) mid next) where
+  pub copy-room : at + length (h ∷ ws) < 4294967296 → next + length ws < 4294967296
   copy-room l = let m = W .moved in omega arith
 
-  pub copy-wrote : (new : List ℕ) (r : ℕ) → Wrote mid next (counted (bodiesBy vars 0 a (recordsFrom m s 5))) new r → Wrote old at (copyWords (copyOf s m h a vars)) new r
-  unfolding counted copyWords copyOf
+  pub copy-wrote : (new : List ℕ) (r : ℕ) → Wrote mid next ws new r → Wrote old at (h ∷ ws) new r
   copy-wrote new r U = wrote-append _ _ _ _ _ _ _ _ W U

@@ -4,20 +4,21 @@ use mathlib.Core.Path.{_≡_, refl, sym, _∙_, ap, ap₂, subst}
 use Prim.Native.Nat.{ℕ, _+_, _-_, _≤_, _<_}
 use native.Mathlib.Omega.{arith}
 use lib.ListN.{length, length-append}
-use Rattle.asp.specs.Program.{Body}
-use Rattle.unfolding.specs.Unfolded.{Copy, last, bodyWords, copyWords, words, unfolded}
-use Rattle.sheet.specs.Sheet.{recordsFrom, programOf}
+use Rattle.unfolding.specs.Unfolded.{Copy, last, bodyWords, copyWords, words}
+use Rattle.sheet.specs.Sheet.{recordsFrom, programOf, Walk}
 use Rattle.sheet.proofs.Walk.{walk-sound}
 use Rattle.writer.specs.Wrote.{Wrote}
 use Rattle.writer.proofs.Writing.{Left, left-start, left-turn, left-end, left-length, wrote-append}
-use Rattle.copies.specs.Chosen.{bodiesBy, copyOf}
+use Rattle.copies.specs.Bodies.{bodiesBy, lastBodies}
 use Rattle.copies.specs.Made.{Table, Made}
 use Rattle.copies.specs.Ready.{Ready, unfoldedOf}
 use Rattle.copies.specs.declared.Copies.{Copies}
 use Rattle.copies.proofs.Going.{Going, Turned, going-start, going-turn, going-end, going-fresh}
-use Rattle.copies.proofs.Sizes.{Sized, flatMap-bound, copy-sized, constraints-sized, copies-number}
+use Rattle.copies.proofs.Sizes.{constraints-sized, copies-number}
 use Rattle.copies.proofs.Tracking.{constraints-same}
-use Rattle.unfold.specs.Words.{counted}
+use Rattle.copies.proofs.Totalling.{rules-short, atoms-short, constraints-short, last-is}
+use Rattle.unfold.specs.Words.{bodiesWords, countedWords}
+use Rattle.unfold.proofs.Sizes.{bodies-size, copies-size}
 
 module _ (s q : List ℕ) (n m : ℕ) where
   abbrev pub copiesWords : List ℕ
@@ -43,17 +44,17 @@ module _ (s q : List ℕ) (n m : ℕ) (names : List ℕ) (R : Ready s q n m name
       turned : Turned s q n m i c′ (L .copies)
       turned = going-turn s q n m names R i c c′ (L .copies) (L .going) within M
 
-      step : flatMap copyWords (L .copies) ≡ copyWords (copyOf s m (c′ .var) (c′ .atom) (c′ .vars)) ++ flatMap copyWords (turned .rest)
-      unfolding flatMap copyOf
+      abbrev here : List ℕ
+      here = c′ .var ∷ countedWords (bodiesBy (c′ .vars) 0 (c′ .atom) (recordsFrom m s 5))
+
+      step : flatMap copyWords (L .copies) ≡ here ++ flatMap copyWords (turned .rest)
+      unfolding flatMap copyWords countedWords bodiesWords
       step = ap (flatMap copyWords) (turned .first)
 
-      pub copies-room : at + length (copiesWords s q n m) < 4294967296 → pos + length (copyWords (copyOf s m (c′ .var) (c′ .atom) (c′ .vars))) < 4294967296
-      copies-room h =
-          let e = L .rest .ends in
-          let f = ap length step ∙ length-append (copyWords (copyOf s m (c′ .var) (c′ .atom) (c′ .vars))) (flatMap copyWords (turned .rest)) in
-          omega arith
+      pub copies-room : at + length (copiesWords s q n m) < 4294967296 → pos + length here < 4294967296
+      copies-room h = let e = L .rest .ends in let f = ap length step ∙ length-append here (flatMap copyWords (turned .rest)) in omega arith
 
-      pub copies-turn : (new : List ℕ) (next : ℕ) → Wrote cur pos (copyWords (copyOf s m (c′ .var) (c′ .atom) (c′ .vars))) new next → CopiesLeft s q n m old at new next c′ (i + 1)
+      pub copies-turn : (new : List ℕ) (next : ℕ) → Wrote cur pos here new next → CopiesLeft s q n m old at new next c′ (i + 1)
       copies-turn new next W =
           record { copies = turned .rest; going = turned .going; from = let f = L .from in omega arith; rest = left-turn old at (copiesWords s q n m) cur new _ _ _ pos next (L .rest) step W }
 
@@ -64,52 +65,48 @@ module _ (s q : List ℕ) (n m : ℕ) (names : List ℕ) (R : Ready s q n m name
   unfolding flatMap
   copies-end cur pos c i L l = left-end old at (copiesWords s q n m) cur _ pos (L .rest) (ap (flatMap copyWords) (going-end s q n m names R i c (L .copies) (L .going) l))
 
--- Bounds.
-body-bound : (b : Body) → length (b .pos) + length (b .neg) ≤ 128 → length (bodyWords b) ≤ 130
-unfolding bodyWords
-body-bound b h = let a = length-append (b .pos) (b .neg) in omega arith
-
-bodies-bound : (bs : List Body) → Sized bs → length (flatMap bodyWords bs) ≤ 16640
-bodies-bound bs S =
-    let f = flatMap-bound bodyWords 130 bs (λ b k. body-bound b (S .short b k)) in
-    let g = S .few in
-    omega arith
-
-copy-bound : (c : Copy) → length (flatMap bodyWords (c .kept)) ≤ 16640 → length (copyWords c) ≤ 16642
-unfolding copyWords
-copy-bound c h = omega arith
-
 -- The whole.
 module _ (s q : List ℕ) (n m : ℕ) (names : List ℕ) (R : Ready s q n m names) where
   copies-bound : length (copiesWords s q n m) ≤ 10650880
   copies-bound =
-      let f = flatMap-bound copyWords 16642 (unfoldedOf s q n m .copies) (λ c k. copy-bound c (bodies-bound (c .kept) (copy-sized s q n m names R c k))) in
-      let g = copies-number s q n m names R in
-      let h = R .short in
+      let e = copies-size (unfoldedOf s q n m .copies) in
+      let f = copies-number s q n m names R in
+      let g = R .short in
+      let h = rules-short s q n m names R in
+      let i = atoms-short s q n m names R in
       omega arith
-
-  constraints-is : (vars : List ℕ) → Table last vars → bodiesBy vars 1 0 (recordsFrom m s 5) ≡ unfoldedOf s q n m .constraints
-  unfolding unfolded programOf
-  constraints-is vars T = constraints-same n (R .atoms) vars T (recordsFrom m s 5) (walk-sound s n m 5 (R .walk))
 
   module _ (old o₁ : List ℕ) (first : ℕ) (W₁ : Wrote old 0 ((length q - 3) ∷ []) o₁ first) where
     pub first-room : first + length (copiesWords s q n m) < 4294967296
     first-room = let m = W₁ .moved in let b = copies-bound in omega arith
 
-    module _ (o₂ : List ℕ) (behind : ℕ) (W₂ : Wrote o₁ first (copiesWords s q n m) o₂ behind) (vars : List ℕ) (T : Table last vars) where
-      pub behind-room : behind + length (counted (bodiesBy vars 1 0 (recordsFrom m s 5))) < 4294967296
-      unfolding counted
+    module _ (o₂ : List ℕ) (behind : ℕ) (W₂ : Wrote o₁ first (copiesWords s q n m) o₂ behind) where
+      pub behind-room : behind + length (countedWords (lastBodies (recordsFrom m s 5))) < 4294967296
+      unfolding countedWords bodiesWords
       behind-room =
           let m₁ = W₁ .moved in
           let m₂ = W₂ .moved in
           let b = copies-bound in
-          let c = bodies-bound (unfoldedOf s q n m .constraints) (constraints-sized s q n m names R) in
-          let k = ap (λ bs. length (flatMap bodyWords bs)) (constraints-is vars T) in
+          let c = bodies-size (unfoldedOf s q n m .constraints) in
+          let d = constraints-short s q n m names R in
+          let e = constraints-sized s q n m names R .few in
+          let k = ap (λ bs. length (flatMap bodyWords bs)) (last-is s q n m names R) in
           omega arith
 
-      pub words-wrote : (new : List ℕ) (r : ℕ) → Wrote o₂ behind (counted (bodiesBy vars 1 0 (recordsFrom m s 5))) new r → Wrote old 0 (words (unfoldedOf s q n m)) new r
-      unfolding counted words
-      words-wrote new r W₃ =
-          subst (λ ws. Wrote old 0 ws new r)
-          (ap₂ (λ k bs. k ∷ (copiesWords s q n m ++ (length bs ∷ flatMap bodyWords bs))) (sym (copies-number s q n m names R)) (constraints-is vars T))
+      pub words-wrote : (new : List ℕ) (end : ℕ) → Wrote o₂ behind (countedWords (lastBodies (recordsFrom m s 5))) new end → Wrote old 0 (words (unfoldedOf s q n m)) new end
+      unfolding countedWords bodiesWords words
+      words-wrote new end W₃ =
+          subst (λ ws. Wrote old 0 ws new end)
+          (ap₂ (λ k bs. k ∷ (copiesWords s q n m ++ (length bs ∷ flatMap bodyWords bs))) (sym (copies-number s q n m names R)) (last-is s q n m names R))
           (wrote-append _ _ _ _ _ _ _ _ W₁ (wrote-append _ _ _ _ _ _ _ _ W₂ W₃))
+
+-- The constraints.
+module _ (s : List ℕ) (n m : ℕ) (W : Walk s n m 5) (few : n ≤ 64) (vars : List ℕ) (T : Table last vars) where
+  constraints-are : bodiesBy vars 1 0 (recordsFrom m s 5) ≡ lastBodies (recordsFrom m s 5)
+  constraints-are = constraints-same n few vars T (recordsFrom m s 5) (walk-sound s n m 5 W)
+
+  pub constraints-room : (at : ℕ) → at + length (countedWords (lastBodies (recordsFrom m s 5))) < 4294967296 → at + length (countedWords (bodiesBy vars 1 0 (recordsFrom m s 5))) < 4294967296
+  constraints-room at h = subst (λ bs. at + length (countedWords bs) < 4294967296) (sym constraints-are) h
+
+  pub constraints-wrote : (old new : List ℕ) (at r : ℕ) → Wrote old at (countedWords (bodiesBy vars 1 0 (recordsFrom m s 5))) new r → Wrote old at (countedWords (lastBodies (recordsFrom m s 5))) new r
+  constraints-wrote old new at r U = subst (λ bs. Wrote old at (countedWords bs) new r) constraints-are U

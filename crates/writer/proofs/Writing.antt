@@ -60,9 +60,6 @@ module _ {A : Type 0} (old : List A) (at : ℕ) (ws : List A) where
   left-end cur rest pos L e = subst (λ l. Wrote old at l cur pos) (sym (append-nil (L .done)) ∙ (ap (λ l. L .done ++ l) (sym e) ∙ L .split)) (L .so-far)
 
 module _ {A : Type 0} where
-  pub wrote-length : (old new ws : List A) (at next : ℕ) → Wrote old at ws new next → length new ≡ length old
-  wrote-length old new ws at next W = ap length (W .stored) ∙ length-sets old at ws
-
   -- Two writers, one behind the other.
   pub wrote-append : (old mid new xs ys : List A) (at between next : ℕ) → Wrote old at xs mid between → Wrote mid between ys new next → Wrote old at (xs ++ ys) new next
   wrote-append old mid new xs ys at between next U W =

@@ -1,6 +1,6 @@
 // Writing into a lent buffer: a store past its end does nothing, so that a dry run on an empty buffer tells the length.
 ghost use mathlib.Core.List.{[], _∷_};
-ghost use Prim.Native.Nat.{_≤_, _<_};
+ghost use Prim.Native.Nat.{_<_};
 ghost use Rattle.writer.specs.Wrote.{Wrote};
 
 // One byte.

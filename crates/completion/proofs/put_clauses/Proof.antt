@@ -1,30 +1,27 @@
 -- `completion::put_clauses` meets its contract, one law for each way through it.
+use Rattle.completion.proofs.Whole.{all-room, all-wrote}
 use borrow.Author.Needs.{needs}
-use Rattle.completion.proofs.Whole.{lasts-low, all-room, all-count, all-put}
 use Rattle.completion.proofs.put_clauses.Statement.{statement}
 use Rattle.completion.proofs.put_clauses.Tie as tie
+
+index-of-requires : tie.Need-index-of-requires
+index-of-requires c κs = search needs
 
 put-copies-requires : tie.Need-put-copies-requires
 put-copies-requires c κs = search needs
 
-last-copies-requires : tie.Need-last-copies-requires
-last-copies-requires c κs = search needs
-
 put-constraints-requires : tie.Need-put-constraints-requires
-put-constraints-requires c κs = (search needs, search needs, search (needs, lasts-low), search (needs, all-count), search (needs, all-room))
+put-constraints-requires c κs =
+    let R = c .before .before .before .before .before .before .before .before .before .before .before .before .before .pre in
+    (R .walk, c .before .before .before .before .before .before .before .before .before .before .index-of .ensures, R .atoms, R .records, all-room _ _ _ _ _ R _ _ _ (c .before .before .before .before .put-copies .ensures))
 
 same-length : tie.Need-same-length
 same-length c = search needs
 
 returns : tie.Need-returns
-returns c = search (needs, all-put)
+returns c = search (needs, all-wrote)
 
 pub put-clauses-spec : {M : Type 1} → statement M
 put-clauses-spec =
     tie.close
-    (tie.spec
-    put-copies-requires
-    last-copies-requires
-    put-constraints-requires
-    same-length
-    returns)
+    (tie.spec index-of-requires put-copies-requires put-constraints-requires same-length returns)

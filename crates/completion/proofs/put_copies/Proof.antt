@@ -1,19 +1,22 @@
 -- `completion::put_copies` meets its contract, one law for each way through it.
-use Prim.Native.Nat.{_-_}
 use borrow.Author.Needs.{needs}
+use Rattle.completion.proofs.Whole.{CopiesLeft, copies-start, copies-fresh, copies-entry, copies-rule, copies-low, copies-var, copies-room, copies-turn, copies-length, copies-end}
 use lib.ListN.{length}
-use Rattle.completion.proofs.Whole.{CopiesLeft, copies-start, copies-fresh, copies-variables, copies-clauses, copies-low, copies-var, copies-room, copies-turn, copies-length, copies-end}
+use Prim.Native.Nat.{_-_}
 use Rattle.completion.proofs.put_copies.Statement.{statement}
 use Rattle.completion.proofs.put_copies.Tie as tie
 
 abbrev Inv-loop : tie.InvT-loop
-Inv-loop out₀ s q n m names ends₀ copies₀ i₀ out ends copies i = CopiesLeft s q n m out₀ out ends copies i
+Inv-loop out₀ s q n m names places sets ends₀ copies₀ i₀ out ends copies i = CopiesLeft s q n m out₀ out ends copies i
 
 abbrev μ-loop : tie.MeasureT-loop
-μ-loop out₀ s q n m names ends₀ copies₀ i₀ out ends copies i = length q - i
+μ-loop out₀ s q n m names places sets ends₀ copies₀ i₀ out ends copies i = length q - i
 
-sub-t12 : tie.Need-sub-t12 Inv-loop μ-loop
-sub-t12 c = search needs
+sub-t16 : tie.Need-sub-t16 Inv-loop μ-loop
+sub-t16 c = search needs
+
+cast-t17 : tie.Need-cast-t17 Inv-loop μ-loop
+cast-t17 c = search needs
 
 no-copies-requires : tie.Need-no-copies-requires Inv-loop μ-loop
 no-copies-requires c κs = search needs
@@ -25,10 +28,16 @@ next-requires : tie.Need-next-requires Inv-loop μ-loop
 next-requires c κs = search (needs, copies-fresh)
 
 put-copy-requires : tie.Need-put-copy-requires Inv-loop μ-loop
-put-copy-requires c κs = (search needs, search needs, search needs, search (needs, copies-low), search (needs, copies-var), search (needs, copies-variables), search (needs, copies-clauses), search (needs, copies-room))
+put-copy-requires c κs =
+    let pre = c .before .before .before .before .before .before .before .before .before .pre in
+    let R = pre .0 in
+    let L = c .before .before .before .before .before .loop .inv in
+    let lt = c .before .before .before .before .loop-test .taken in
+    let M = c .before .before .before .next .ensures in
+    (pre .1, R .atoms, R .records, copies-low _ _ _ _ _ R _ _ _ _ _ L lt _ M, copies-var _ _ _ _ _ R _ _ _ _ _ L lt _ M, copies-rule _ _ _ _ _ R _ _ _ _ _ L lt, copies-room _ _ _ _ _ R _ _ _ _ _ L lt _ M)
 
 add-i : tie.Need-add-i Inv-loop μ-loop
-add-i c = search needs
+add-i c = search (needs, copies-entry)
 
 loop-less : tie.Need-loop-less Inv-loop μ-loop
 loop-less c = search needs
@@ -48,7 +57,8 @@ put-copies-spec =
     (tie.spec
     Inv-loop
     μ-loop
-    sub-t12
+    sub-t16
+    cast-t17
     no-copies-requires
     loop-holds
     next-requires

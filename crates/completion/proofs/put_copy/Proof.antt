@@ -1,36 +1,29 @@
 -- `completion::put_copy` meets its contract, one law for each way through it.
-use native.Mathlib.Omega.{arith}
+use Rattle.completion.proofs.Whole.{copy-few, copy-numbers, copy-first, copy-second, copy-put}
 use borrow.Author.Needs.{needs}
-use Rattle.completion.proofs.Copy.{copy-numbers, copy-first, copy-clauses, copy-second, copy-put}
 use Rattle.completion.proofs.put_copy.Statement.{statement}
 use Rattle.completion.proofs.put_copy.Tie as tie
 
-count-requires : tie.Need-count-requires
-count-requires c κs = search needs
+choose-requires : tie.Need-choose-requires
+choose-requires c κs = search needs
 
-add-d : tie.Need-add-d
-add-d c = search needs
-
-cast-d : tie.Need-cast-d
-cast-d c = search needs
+cast-put-first : tie.Need-cast-put-first
+cast-put-first c = search needs
 
 put-first-requires : tie.Need-put-first-requires
-put-first-requires c κs = (search (needs, copy-first), search needs, search (needs, copy-numbers))
+put-first-requires c κs = search (needs, copy-first, copy-numbers)
 
 put-rules-requires : tie.Need-put-rules-requires
-put-rules-requires c κs = (search needs, search needs, search needs, search needs, search needs, search (needs, copy-second))
+put-rules-requires c κs =
+    let pre = c .before .before .before .before .before .before .before .before .pre in
+    let C = c .before .before .before .before .before .before .choose .ensures in
+    (C .placed, pre .1, copy-few _ _ _ _ _ _ C (pre .2), pre .3, pre .4, copy-numbers _ _ _ _ _ _ C (pre .2) _ (pre .5), copy-second _ _ _ _ _ _ C _ _ (pre .6) _ _ _ (c .before .before .before .put-first .ensures))
 
-cast-t13 : tie.Need-cast-t13
-cast-t13 c = search needs
+cast-t19 : tie.Need-cast-t19
+cast-t19 c = search needs
 
-add-t18 : tie.Need-add-t18
-add-t18 c = search needs
-
-add-t19 : tie.Need-add-t19
-add-t19 c = search needs
-
-add-t20 : tie.Need-add-t20
-add-t20 c = omega (arith, copy-clauses (c .before .before .before .before .before .before .before .before .before .before .before .before .before .args .vars .now) (c .before .before .before .before .before .before .before .before .before .before .before .before .before .args .s .now) (c .before .before .before .before .before .before .before .before .before .before .before .before .before .args .m) (c .before .before .before .before .before .before .before .before .before .before .before .before .before .args .h) (c .before .before .before .before .before .before .before .before .before .before .before .before .before .args .a) (c .before .before .before .before .before .before .before .before .before .before .before .count .result) (c .before .before .before .before .before .before .before .before .before .before .before .count .ensures) (c .before .before .before .before .before .before .before .before .before .before .before .before .before .args .ends) (c .before .before .before .before .before .before .before .before .before .before .before .before .before .pre .7))
+add-t23 : tie.Need-add-t23
+add-t23 c = search needs
 
 same-length : tie.Need-same-length
 same-length c = search needs
@@ -42,14 +35,11 @@ pub put-copy-spec : {M : Type 1} → statement M
 put-copy-spec =
     tie.close
     (tie.spec
-    count-requires
-    add-d
-    cast-d
+    choose-requires
+    cast-put-first
     put-first-requires
     put-rules-requires
-    cast-t13
-    add-t18
-    add-t19
-    add-t20
+    cast-t19
+    add-t23
     same-length
     returns)

@@ -1,35 +1,37 @@
 -- `completion::put_rules` meets its contract, one law for each way through it.
 use borrow.Author.Needs.{needs}
-use Rattle.completion.proofs.Rules.{RulesLeft, rules-start, rules-room, rules-turn, rules-length, rules-end}
+use Rattle.completion.proofs.Rules.{RulesLeft, rules-start, rules-variable, rules-room, rules-turn, rules-length, rules-end}
+use Prim.Native.Nat.{_-_}
 use Rattle.completion.proofs.put_rules.Statement.{statement}
 use Rattle.completion.proofs.put_rules.Tie as tie
 
 abbrev Inv-loop : tie.InvT-loop
-Inv-loop out₀ at h d s n m a vars pos₀ rule₀ from₀ left₀ out pos rule from left = RulesLeft vars h d a s n m out₀ at out pos rule from left
+Inv-loop out₀ at h d s n places k vars pos₀ rule₀ j₀ out pos rule j = RulesLeft s vars places k h d out₀ at out pos rule j
 
 abbrev μ-loop : tie.MeasureT-loop
-μ-loop out₀ at h d s n m a vars pos₀ rule₀ from₀ left₀ out pos rule from left = left
+μ-loop out₀ at h d s n places k vars pos₀ rule₀ j₀ out pos rule j = k - j
 
 loop-holds : tie.Need-loop-holds Inv-loop μ-loop
 loop-holds c = search (needs, rules-start)
 
-next-record-requires : tie.Need-next-record-requires Inv-loop μ-loop
-next-record-requires c κs = search needs
+mul-put-rule : tie.Need-mul-put-rule Inv-loop μ-loop
+mul-put-rule c = search needs
 
-is-chosen-requires : tie.Need-is-chosen-requires Inv-loop μ-loop
-is-chosen-requires c κs = search needs
+element-copy-out-put-rule : tie.Need-element-copy-out-put-rule Inv-loop μ-loop
+element-copy-out-put-rule c = search needs
 
-put-kept-requires : tie.Need-put-kept-requires Inv-loop μ-loop
-put-kept-requires c κs = (search needs, search needs, search needs, search needs, search needs, search (needs, rules-room))
+put-rule-requires : tie.Need-put-rule-requires Inv-loop μ-loop
+put-rule-requires c κs =
+    let pre = c .before .before .before .before .before .pre in
+    let lt = c .before .before .loop-test .taken in
+    let inv = c .before .before .before .loop .inv in
+    (pre .0 .known _ lt, pre .1, pre .3, pre .4, rules-variable _ _ _ _ _ _ _ _ _ _ _ _ inv lt (pre .5), rules-room _ _ _ _ _ _ _ _ _ _ _ _ inv lt (pre .6))
 
-add-pick : tie.Need-add-pick Inv-loop μ-loop
-add-pick c = search needs
+add-rule : tie.Need-add-rule Inv-loop μ-loop
+add-rule c = search needs
 
-pick-requires : tie.Need-pick-requires Inv-loop μ-loop
-pick-requires c κs = search needs
-
-sub-left : tie.Need-sub-left Inv-loop μ-loop
-sub-left c = search needs
+add-j : tie.Need-add-j Inv-loop μ-loop
+add-j c = search needs
 
 loop-less : tie.Need-loop-less Inv-loop μ-loop
 loop-less c = search needs
@@ -50,12 +52,11 @@ put-rules-spec =
     Inv-loop
     μ-loop
     loop-holds
-    next-record-requires
-    is-chosen-requires
-    put-kept-requires
-    add-pick
-    pick-requires
-    sub-left
+    mul-put-rule
+    element-copy-out-put-rule
+    put-rule-requires
+    add-rule
+    add-j
     loop-less
     loop-again
     same-length

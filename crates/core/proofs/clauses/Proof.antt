@@ -10,8 +10,8 @@ examine-requires c κs = search needs
 returns : tie.Need-returns
 returns c = search (needs, clauses-refused)
 
-clauses-length-requires : tie.Need-clauses-length-requires
-clauses-length-requires c κs = search (needs, examined-ready)
+numbers-of-requires : tie.Need-numbers-of-requires
+numbers-of-requires c κs = search (needs, examined-ready)
 
 returns-2 : tie.Need-returns-2
 returns-2 c = search (needs, clauses-full)
@@ -31,7 +31,7 @@ clauses-spec =
     (tie.spec
     examine-requires
     returns
-    clauses-length-requires
+    numbers-of-requires
     returns-2
     put-clauses-requires
     same-length

@@ -3,7 +3,7 @@ use mathlib.Core.List.{map}
 use Prim.Native.Nat.{_-_}
 use borrow.Author.Needs.{needs}
 use lib.ListN.{length}
-use Rattle.copies.proofs.Choosing.{standing-low}
+use Rattle.copies.proofs.Choosing.{byte-low}
 use Rattle.literals.proofs.Lists.{variable-small, flippedFrom, flipped-next, flipped-end, flipped-room}
 use Rattle.literals.proofs.put_flipped.Statement.{statement}
 use Rattle.literals.proofs.put_flipped.Tie as tie
@@ -24,7 +24,7 @@ byte-at-requires : tie.Need-byte-at-requires Inv-loop μ-loop
 byte-at-requires c κs = search needs
 
 variable-requires : tie.Need-variable-requires Inv-loop μ-loop
-variable-requires c κs = search (needs, standing-low)
+variable-requires c κs = search (needs, byte-low)
 
 put-literal-requires : tie.Need-put-literal-requires Inv-loop μ-loop
 put-literal-requires c κs = (search (needs, flipped-room), search (needs, variable-small))

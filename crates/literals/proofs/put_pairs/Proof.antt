@@ -2,7 +2,7 @@
 use Prim.Native.Nat.{_-_}
 use borrow.Author.Needs.{needs}
 use lib.ListN.{length}
-use Rattle.copies.proofs.Choosing.{standing-low}
+use Rattle.copies.proofs.Choosing.{byte-low}
 use Rattle.literals.proofs.Lists.{variable-small, pairsFrom, pairs-next, pairs-end, pairs-room}
 use Rattle.literals.proofs.put_pairs.Statement.{statement}
 use Rattle.literals.proofs.put_pairs.Tie as tie
@@ -23,7 +23,7 @@ byte-at-requires : tie.Need-byte-at-requires Inv-loop μ-loop
 byte-at-requires c κs = search needs
 
 variable-requires : tie.Need-variable-requires Inv-loop μ-loop
-variable-requires c κs = search (needs, standing-low)
+variable-requires c κs = search (needs, byte-low)
 
 put-two-requires : tie.Need-put-two-requires Inv-loop μ-loop
 put-two-requires c κs = (search (needs, pairs-room), search needs, search (needs, variable-small))

@@ -3,8 +3,8 @@ use mathlib.Core.List.{map}
 use Prim.Native.Nat.{_-_}
 use borrow.Author.Needs.{needs}
 use lib.ListN.{length}
-use Rattle.copies.proofs.Choosing.{standing-low}
-use Rattle.copies.specs.Chosen.{variableBy}
+use Rattle.copies.proofs.Choosing.{byte-low}
+use Rattle.copies.specs.Bodies.{variableBy}
 use Rattle.unfold.proofs.Body.{atomsFrom, atoms-next, atoms-end, atoms-room}
 use Rattle.unfold.proofs.put_atoms.Statement.{statement}
 use Rattle.unfold.proofs.put_atoms.Tie as tie
@@ -23,7 +23,7 @@ byte-at-requires : tie.Need-byte-at-requires Inv-loop μ-loop
 byte-at-requires c κs = search needs
 
 variable-requires : tie.Need-variable-requires Inv-loop μ-loop
-variable-requires c κs = search (needs, standing-low)
+variable-requires c κs = search (needs, byte-low)
 
 put-word-requires : tie.Need-put-word-requires Inv-loop μ-loop
 put-word-requires c κs = search (needs, atoms-room)

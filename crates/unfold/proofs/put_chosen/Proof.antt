@@ -1,24 +1,34 @@
 -- `unfold::put_chosen` meets its contract, one law for each way through it.
+use Rattle.unfold.proofs.Body.{counted-room, counted-wrote}
 use borrow.Author.Needs.{needs}
-use Rattle.unfold.proofs.Body.{chosen-room, chosen-wrote, chosen-none}
 use Rattle.unfold.proofs.put_chosen.Statement.{statement}
 use Rattle.unfold.proofs.put_chosen.Tie as tie
 
-is-chosen-requires : tie.Need-is-chosen-requires
-is-chosen-requires c κs = search needs
+choose-requires : tie.Need-choose-requires
+choose-requires c κs = search needs
 
-put-body-requires : tie.Need-put-body-requires
-put-body-requires c κs = search (needs, chosen-room)
+cast-put-word : tie.Need-cast-put-word
+cast-put-word c = search needs
+
+put-word-requires : tie.Need-put-word-requires
+put-word-requires c κs = search needs
+
+put-bodies-requires : tie.Need-put-bodies-requires
+put-bodies-requires c κs = search (needs, counted-room)
 
 same-length : tie.Need-same-length
 same-length c = search needs
 
 returns : tie.Need-returns
-returns c = search (needs, chosen-wrote)
-
-returns-2 : tie.Need-returns-2
-returns-2 c = search (needs, chosen-none)
+returns c = search (needs, counted-wrote)
 
 pub put-chosen-spec : {M : Type 1} → statement M
 put-chosen-spec =
-    tie.close (tie.spec is-chosen-requires put-body-requires same-length returns returns-2)
+    tie.close
+    (tie.spec
+    choose-requires
+    cast-put-word
+    put-word-requires
+    put-bodies-requires
+    same-length
+    returns)

@@ -1,16 +1,16 @@
 -- `unfold::put_copies` meets its contract, one law for each way through it.
-use Prim.Native.Nat.{_-_}
 use borrow.Author.Needs.{needs}
-use lib.ListN.{length}
 use Rattle.unfold.proofs.Whole.{CopiesLeft, copies-start, copies-fresh, copies-room, copies-turn, copies-length, copies-end}
+use lib.ListN.{length}
+use Prim.Native.Nat.{_-_}
 use Rattle.unfold.proofs.put_copies.Statement.{statement}
 use Rattle.unfold.proofs.put_copies.Tie as tie
 
 abbrev Inv-loop : tie.InvT-loop
-Inv-loop out₀ at s q n m names pos₀ copies₀ i₀ out pos copies i = CopiesLeft s q n m out₀ at out pos copies i
+Inv-loop out₀ at s q n m names places sets pos₀ copies₀ i₀ out pos copies i = CopiesLeft s q n m out₀ at out pos copies i
 
 abbrev μ-loop : tie.MeasureT-loop
-μ-loop out₀ at s q n m names pos₀ copies₀ i₀ out pos copies i = length q - i
+μ-loop out₀ at s q n m names places sets pos₀ copies₀ i₀ out pos copies i = length q - i
 
 no-copies-requires : tie.Need-no-copies-requires Inv-loop μ-loop
 no-copies-requires c κs = search needs

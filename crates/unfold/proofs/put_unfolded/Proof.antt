@@ -1,8 +1,11 @@
 -- `unfold::put_unfolded` meets its contract, one law for each way through it.
-use borrow.Author.Needs.{needs}
 use Rattle.unfold.proofs.Whole.{first-room, behind-room, words-wrote}
+use borrow.Author.Needs.{needs}
 use Rattle.unfold.proofs.put_unfolded.Statement.{statement}
 use Rattle.unfold.proofs.put_unfolded.Tie as tie
+
+index-of-requires : tie.Need-index-of-requires
+index-of-requires c κs = search needs
 
 sub-t : tie.Need-sub-t
 sub-t c = search needs
@@ -16,11 +19,10 @@ put-word-requires c κs = search needs
 put-copies-requires : tie.Need-put-copies-requires
 put-copies-requires c κs = search (needs, first-room)
 
-last-copies-requires : tie.Need-last-copies-requires
-last-copies-requires c κs = search needs
-
-put-counted-requires : tie.Need-put-counted-requires
-put-counted-requires c κs = (search needs, search needs, search needs, behind-room _ _ _ _ _ (c .before .before .before .before .before .before .before .before .before .before .before .before .before .before .before .pre) _ _ _ (c .before .before .before .before .before .before .before .before .before .before .put-word .ensures) _ _ (c .before .before .before .before .before .before .put-copies .ensures) _ (c .before .before .before .last-copies .ensures))
+put-constraints-requires : tie.Need-put-constraints-requires
+put-constraints-requires c κs =
+    let R = c .before .before .before .before .before .before .before .before .before .before .before .before .before .before .before .before .before .before .before .pre in
+    (R .walk, c .before .before .before .before .before .before .before .before .before .before .before .before .before .before .before .index-of .ensures, R .atoms, R .records, behind-room _ _ _ _ _ R _ _ _ (c .before .before .before .before .before .before .before .before .before .before .before .put-word .ensures) _ _ (c .before .before .before .before .before .put-copies .ensures))
 
 same-length : tie.Need-same-length
 same-length c = search needs
@@ -32,11 +34,11 @@ pub put-unfolded-spec : {M : Type 1} → statement M
 put-unfolded-spec =
     tie.close
     (tie.spec
+    index-of-requires
     sub-t
     cast-put-word
     put-word-requires
     put-copies-requires
-    last-copies-requires
-    put-counted-requires
+    put-constraints-requires
     same-length
     returns)

@@ -1,0 +1,58 @@
+-- `completion::put_backs` meets its contract, one law for each way through it.
+use borrow.Author.Needs.{needs}
+use Rattle.completion.proofs.Rules.{BacksLeft, backs-start, backs-room, backs-turn, backs-length, backs-end}
+use Prim.Native.Nat.{_-_}
+use Rattle.completion.proofs.put_backs.Statement.{statement}
+use Rattle.completion.proofs.put_backs.Tie as tie
+
+abbrev Inv-loop : tie.InvT-loop
+Inv-loop out₀ at s n places k vars pos₀ j₀ out pos j = BacksLeft s vars places k out₀ at out pos j
+
+abbrev μ-loop : tie.MeasureT-loop
+μ-loop out₀ at s n places k vars pos₀ j₀ out pos j = k - j
+
+loop-holds : tie.Need-loop-holds Inv-loop μ-loop
+loop-holds c = search (needs, backs-start)
+
+mul-put-back : tie.Need-mul-put-back Inv-loop μ-loop
+mul-put-back c = search needs
+
+element-copy-out-put-back : tie.Need-element-copy-out-put-back Inv-loop μ-loop
+element-copy-out-put-back c = search needs
+
+put-back-requires : tie.Need-put-back-requires Inv-loop μ-loop
+put-back-requires c κs =
+    let pre = c .before .before .before .before .before .pre in
+    let lt = c .before .before .loop-test .taken in
+    (pre .0 .known _ lt, pre .1, pre .3, backs-room _ _ _ _ _ _ _ _ _ (c .before .before .before .loop .inv) lt (pre .4))
+
+add-j : tie.Need-add-j Inv-loop μ-loop
+add-j c = search needs
+
+loop-less : tie.Need-loop-less Inv-loop μ-loop
+loop-less c = search needs
+
+loop-again : tie.Need-loop-again Inv-loop μ-loop
+loop-again c = search (needs, backs-turn)
+
+same-length : tie.Need-same-length Inv-loop μ-loop
+same-length c = search (needs, backs-length)
+
+returns : tie.Need-returns Inv-loop μ-loop
+returns c = search (needs, backs-end)
+
+pub put-backs-spec : {M : Type 1} → statement M
+put-backs-spec =
+    tie.close
+    (tie.spec
+    Inv-loop
+    μ-loop
+    loop-holds
+    mul-put-back
+    element-copy-out-put-back
+    put-back-requires
+    add-j
+    loop-less
+    loop-again
+    same-length
+    returns)
