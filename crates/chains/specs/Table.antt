@@ -8,8 +8,7 @@ use lib.Dec.{eqb, ltb}
 use lib.ListN.{length, getD}
 use Rattle.asp.specs.Program.{Program, wellFormed}
 use Rattle.unfolding.specs.Graph.{edge, together, component}
-use Rattle.unfolding.specs.Chain.{Chain}
-use Rattle.unfolding.proofs.Starting.{Started}
+use Rattle.unfolding.specs.Chain.{Chain, Started}
 use Rattle.bits.specs.Sets.{has}
 use Rattle.components.specs.Table.{NamesOf}
 
