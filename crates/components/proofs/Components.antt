@@ -91,6 +91,10 @@ pub names-leading : (P : Program) (names : List ℕ) → wellFormed P ≡ true �
 names-leading P names wf N =
     record { low = λ a l. subst (λ c. c ≤ a) (sym (N .name a l)) (component-smallest P wf a a l (together-refl P wf a l)) }
 
+pub walk-leading : (s : List ℕ) (n m : ℕ) (names : List ℕ) → Walk s n m 5 → NamesOf (programOf n (recordsFrom m s 5)) names → Leading names n
+unfolding programOf
+walk-leading s n m names W N = names-leading (programOf n (recordsFrom m s 5)) names (walk-formed s n m W) N
+
 -- Question 7.
 fits-same : (P : Program) (names : List ℕ) → NamesOf P names → (most : ℕ) → namesFit most names (P .atoms) ≡ componentsFit most P
 unfolding namesFit componentsFit
@@ -118,10 +122,6 @@ module _ (L : Limits) (s : List ℕ) where
     analysed-walk n m N M = rw (N .is, M .is) (form .walk)
 
     module _ (n m : ℕ) (N : ByteAt s 3 n) (M : ByteAt s 4 m) (names : List ℕ) (K : NamesOf (programOf n (recordsFrom m s 5)) names) where
-      pub analysed-leading : Leading names n
-      unfolding programOf
-      analysed-leading = names-leading (programOf n (recordsFrom m s 5)) names (walk-formed s n m (analysed-walk n m N M)) K
-
       own : NamesOf (program s) names
       unfolding program records
       own = rw (N .is, M .is) at K
