@@ -13,7 +13,7 @@ use components::component_sizes;
 use components::edges;
 ghost use mathlib.Core.Path.{_≡_};
 ghost use mathlib.Core.Bool.{true};
-ghost use Prim.Native.Nat.{_+_, _≤_, _<_};
+ghost use Prim.Native.Nat.{_≤_, _<_};
 ghost use lib.ListN.{length, getD, drop};
 ghost use Rattle.lists.specs.Lists.{below};
 ghost use Rattle.asp.specs.Program.{Program};
@@ -22,33 +22,50 @@ ghost use Rattle.bits.specs.Sets.{has, Gathered};
 ghost use Rattle.bits.specs.Listed.{Low};
 ghost use Rattle.sheet.specs.Sheet.{Walk, recordsFrom, programOf};
 ghost use Rattle.components.specs.Table.{NamesOf, named, componentsFit};
-ghost use Rattle.chains.specs.Table.{RowAfter, TableAfter, Followers, PlaceOf, Power, Entered, Tested, Members, Graph, ComponentTested};
+ghost use Rattle.chains.specs.Table.{RowAfter, NextWith, TableAfter, Followers, PlaceOf, Power, Entered, Tested, Members, Graph, ComponentTested};
 
-// The row of the set after an entry at place i, which has edges to the places `after`.
+// The row of a set with i after an entry at place i, which has edges to the places `after`.
 fn row_after(sets: &[u64; 1024], set: usize, i: usize, after: u64) -> u64
-    requires { ⌜ (set < 1024) × (i < 64) ⌝ }
+    requires { ⌜ (set < 1024) × (i < 64) × (has set i ≡ true) ⌝ }
     ensures { λ r. ⌜ RowAfter (now (sets .entry)) set i after r ⌝ }
 {
     let row = sets[set];
     let less = without(set as u64, i);
-    if !has(set as u64, i) {
-        return row;
-    }
     if subset(intersection(after, less), sets[less as usize]) {
         return with(row, i);
     }
     row
 }
 
+// How many sets of k places there are.
+fn power(k: usize) -> usize
+    requires { ⌜ k ≤ 10 ⌝ }
+    ensures { λ r. ⌜ Power k r ⌝ }
+{
+    1 << k
+}
+
+// The set that comes next of those with i.
+fn next_with(set: usize, i: usize) -> usize
+    requires { ⌜ (set < 1024) × (i ≤ 10) × (has set i ≡ true) ⌝ }
+    ensures { λ r. ⌜ NextWith set i r ⌝ }
+{
+    let next = set + 1;
+    if has(next as u64, i) {
+        return next;
+    }
+    next + power(i)
+}
+
 // All rows below a size after such an entry: in place, since rows of sets with i are written and others are read.
 fn step(sets: &mut [u64; 1024], size: usize, i: usize, after: u64)
-    requires { ⌜ (length (now sets) ≡ 1024) × (size ≤ 1024) × (i < 64) ⌝ }
+    requires { ⌜ (length (now sets) ≡ 1024) × (size ≤ 1024) × (i ≤ 10) ⌝ }
     ensures { λ r. ⌜ TableAfter (now (sets .entry)) size i after (now (sets .exit)) ⌝ }
 {
-    let mut set = 0;
+    let mut set = power(i);
     while set < size {
         sets[set] = row_after(sets, set, i, after);
-        set += 1;
+        set = next_with(set, i);
     }
 }
 
@@ -88,14 +105,6 @@ fn place_of(atoms: &[u8; 16], k: usize, x: usize) -> usize
         p += 1;
     }
     k
-}
-
-// How many sets of k places there are.
-fn power(k: usize) -> usize
-    requires { ⌜ k ≤ 10 ⌝ }
-    ensures { λ r. ⌜ Power k r ⌝ }
-{
-    1 << k
 }
 
 // One entry more.
