@@ -2,17 +2,18 @@
 use mathlib.Core.Bool.{Bool, true, false, not, _&&_, _||_, and-true, and-false, or-false}
 use mathlib.Core.List.{List}
 use mathlib.Core.Path.{_≡_, refl, sym, _∙_, ap}
-use Prim.Native.Nat.{ℕ, _+_, _*_, _/_, _%_, _^_, _≤_, _<_}
-use native.Mathlib.Nat.{add-mul, mod-lt, div-eq-of-lt, div-lt-iff-lt-mul, div-eq-of-lt-le, add-div-right}
+use Prim.Native.Nat.{ℕ, suc, _+_, _*_, _/_, _%_, _^_, _≤_, _<_}
+use native.Mathlib.Nat.{add-mul, mod-lt, div-eq-of-lt, div-lt-iff-lt-mul, div-eq-of-lt-le}
 use native.Mathlib.Omega.{arith}
 use borrow.Author.Tests.{eqb-true, eqb-false, eq-eqb, ne-eqb, ltb-true, ltb-false}
+use lib.Bits.{bitOr, bitAnd, or-add-and, and-le-r}
 use lib.Dec.{eqb, ltb}
 use lib.ListN.{length, getD, set, length-set}
-use lib.Pow.{pow-pos, shr-mono, split}
+use lib.Pow.{pow-pos, pow-lt, shr-mono, split}
 use lib.Seq.{getD-set-same, getD-set-other}
-use Rattle.lists.proofs.Bools.{by-bool, true-false, and-intro, and-left, and-right}
+use Rattle.lists.proofs.Bools.{by-bool, true-false, and-intro, and-left, and-right, or-right}
 use Rattle.bits.specs.Sets.{has, With, Without, Subset, Both}
-use Rattle.bits.proofs.Digits.{power-has}
+use Rattle.bits.proofs.Digits.{or-has, or-grows, and-has, digits-same, power-has}
 use Rattle.chains.specs.Table.{RowAfter, NextWith, TableAfter, Power}
 
 stays : (x e h : Bool) → x ≡ (x || e && (h && false))
@@ -68,53 +69,53 @@ row-idle sets S i after f =
 below-first : (i T : ℕ) → T < 2 ^ i → has T i ≡ false
 below-first i T l = rw (div-eq-of-lt l) refl
 
-pub next-near : (S i : ℕ) (b : Bool) → b ≡ has (S + 1) i → b ≡ true → NextWith S i (S + 1)
-next-near S i b e t = record { rises = omega arith; own = sym e ∙ t; between = λ T l m. absurd (omega arith) }
+module _ (S i : ℕ) (t : has S i ≡ true) where
+  -- Where the number behind S has i, it is the next set.
+  near : has (S + 1) i ≡ true → bitOr (S + 1) (2 ^ i) ≡ S + 1
+  near h =
+      let sum = or-add-and (S + 1) (2 ^ i) in
+      let one = digits-same (suc i) (bitAnd (S + 1) (2 ^ i)) (2 ^ i) (let k = and-le-r (S + 1) (2 ^ i) in let l = pow-lt {i = i} {j = suc i} (omega arith) in omega arith) (pow-lt (omega arith)) (λ a.
+      and-has (S + 1) (2 ^ i) a ∙ by-bool (eqb a i)
+      (λ q. ap (λ n. has (S + 1) n && has (2 ^ i) a) (eqb-true a i q) ∙ ap (λ (x : Bool). x && has (2 ^ i) a) h)
+      (λ q. let z = power-has i a ∙ q in ap (λ (x : Bool). has (S + 1) a && x) z ∙ (and-false (has (S + 1) a) ∙ sym z))) in
+      omega arith
 
--- Where the set behind S lacks i, it is the first of 2 ^ i that do.
-pub next-far : (S i p : ℕ) (b : Bool) → has S i ≡ true → b ≡ has (S + 1) i → b ≡ false → Power i p → NextWith S i (S + 1 + p)
-next-far S i p b t e f N =
-    record { rises = omega arith; own = own; between = λ T l m. ap (λ n. eqb (n % 2) 1) (same T l m) ∙ (sym e ∙ f) }
-  where
-    u : ℕ
+  -- Where it lacks i, it is the first of 2 ^ i numbers that do.
+  module _ (f : has (S + 1) i ≡ false) where
+    abbrev u : ℕ
     u = S / 2 ^ i
 
-    v : ℕ
+    abbrev v : ℕ
     v = (S + 1) / 2 ^ i
 
-    odd : u % 2 ≡ 1
-    odd = eqb-true (u % 2) 1 t
-
-    even : v % 2 ≡ 1 → ⊥
-    even = eqb-false (v % 2) 1 (sym e ∙ f)
-
-    -- S is the last with this quotient.
-    next : v ≡ u + 1
-    next =
+    follows : v ≡ u + 1
+    follows =
+        let odd = eqb-true (u % 2) 1 t in
+        let even = eqb-false (v % 2) 1 f in
         let low = shr-mono {a = S} {b = S + 1} i (omega arith) in
         let h = split S i in
         let r = mod-lt S (pow-pos i) in
         let k = add-mul u 2 (2 ^ i) in
         let high = div-lt-iff-lt-mul {k = 2 ^ i} {x = S + 1} {y = u + 2} (pow-pos i) .1 (omega arith) in
-        omega (arith, odd, even)
+        omega arith
 
-    whole : v * 2 ^ i ≡ S + 1
-    whole =
+    far : (T : ℕ) → S < T → T < S + 1 + 2 ^ i → has T i ≡ false
+    far T l m =
         let h = split S i in
         let r = mod-lt S (pow-pos i) in
         let g = split (S + 1) i in
-        let k = ap (λ n. n * 2 ^ i) next ∙ add-mul u 1 (2 ^ i) in
-        omega arith
+        let k = ap (λ n. n * 2 ^ i) follows ∙ add-mul u 1 (2 ^ i) in
+        let j = add-mul v 1 (2 ^ i) in
+        ap (λ n. eqb (n % 2) 1) (div-eq-of-lt-le {k = v} (2 ^ i) {m = T} (omega arith) (omega arith)) ∙ f
 
-    same : (T : ℕ) → S < T → T < S + 1 + p → T / 2 ^ i ≡ v
-    same T l m =
-        let w = whole in
-        let q = N .is in
-        let k = add-mul v 1 (2 ^ i) in
-        div-eq-of-lt-le {k = v} (2 ^ i) {m = T} (omega arith) (omega arith)
-
-    own : has (S + 1 + p) i ≡ true
-    own = ap (λ n. eqb ((S + 1 + n) / 2 ^ i % 2) 1) (N .is) ∙ (ap (λ n. eqb (n % 2) 1) (add-div-right (S + 1) (pow-pos i)) ∙ eq-eqb ((v + 1) % 2) 1 (let o = odd in let n = next in omega arith))
+  pub next-is : (p : ℕ) → Power i p → NextWith S i (bitOr (S + 1) p)
+  next-is p N =
+      rw (N .is)
+      (record {
+        rises = let h = or-grows (S + 1) (2 ^ i) in omega arith;
+        own = or-has (S + 1) (2 ^ i) i ∙ or-right (has (S + 1) i) (power-has i i ∙ eq-eqb i i refl);
+        between = λ T l m. by-bool (has (S + 1) i) (λ h. let e = near h in absurd (omega arith)) (λ f. far f T l (let sum = or-add-and (S + 1) (2 ^ i) in omega arith));
+      })
 
 -- The rows below S, a set with i, are done.
 pub record Stepping (old : List ℕ) (i after S : ℕ) (cur : List ℕ) : Type 0 where

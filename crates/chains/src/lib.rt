@@ -50,11 +50,7 @@ fn next_with(set: usize, i: usize) -> usize
     requires { ⌜ (set < 1024) × (i ≤ 10) × (has set i ≡ true) ⌝ }
     ensures { λ r. ⌜ NextWith set i r ⌝ }
 {
-    let next = set + 1;
-    if has(next as u64, i) {
-        return next;
-    }
-    next + power(i)
+    (set + 1) | power(i)
 }
 
 // All rows below a size after such an entry: in place, since rows of sets with i are written and others are read.
