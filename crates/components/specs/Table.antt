@@ -80,7 +80,7 @@ pub record NamesOf (P : Program) (names : List ℕ) : Type 0 where
 unfoldable pub named : List ℕ → ℕ → ℕ → List ℕ
 named names c n = filter (λ a. eqb (getD names a 0) c) (range 0 n)
 
--- No atom has a larger name: a component is named by its smallest atom.
+-- A name is at most each atom that has it: a component is named by its smallest atom.
 pub record Leading (names : List ℕ) (n : ℕ) : Type 0 where
   pub low : (a : ℕ) → a < n → getD names a 0 ≤ a
 
