@@ -1,22 +1,25 @@
 -- Laws of the chain question, component by component.
 use mathlib.Core.Bool.{Bool, true, false, _&&_}
-use mathlib.Core.List.{List, [], _∷_, List·Memᴰ·head, Sublistᴰ}
+use mathlib.Core.List.{List, [], _∷_, List·Memᴰ, List·Memᴰ·head, List·Memᴰ·tail, List·Memᴰ·not-nil, List·Memᴰ·eq-of-singleton, Sublistᴰ}
 use mathlib.Core.Path.{_≡_, refl, sym, _∙_, ap, subst}
-use Prim.Native.Nat.{ℕ, _+_, _≤_, _<_}
+use Prim.Native.Nat.{ℕ, _+_, _-_, _≤_, _<_}
 use native.Mathlib.Omega.{arith}
 use borrow.Author.Tests.{eqb-true, eqb-false, eq-eqb, ltb-true, lt-ltb, leb-true}
 use lib.Dec.{eqb, ltb, leb}
-use lib.ListN.{length, getD}
+use lib.ListN.{length, getD, take, drop, length-drop}
+use lib.Seq.{take-all}
 use Rattle.lists.specs.Lists.{below, filter, range}
 use Rattle.lists.proofs.Bools.{by-bool, true-false, is-false, and-intro, and-left, and-right}
-use Rattle.lists.proofs.Members.{all-at, below-at, below-in, filter-cong, filter-range, range-in, range-out}
+use Rattle.lists.proofs.Members.{all-at, below-at, below-in, member-out, member-in, filter-cong, filter-in, filter-out, filter-range, range-in, range-out}
+use Rattle.lists.proofs.Nodup.{nodup-head}
+use Rattle.lists.proofs.Sublists.{sublist-mem, mem-sublist}
 use Rattle.asp.specs.Program.{Program, wellFormed}
 use Rattle.unfolding.specs.Graph.{together, component}
 use Rattle.unfolding.specs.Chain.{Chain, passes}
 use Rattle.unfolding.specs.Default.{members}
-use Rattle.unfolding.proofs.Reach.{together-refl, together-below, component-smallest, component-same, component-joins}
-use Rattle.unfolding.proofs.Chains.{passes-iff}
-use Rattle.bits.specs.Sets.{has}
+use Rattle.unfolding.proofs.Reach.{together-refl, together-below, component-together, component-smallest, component-same, component-joins}
+use Rattle.unfolding.proofs.Chains.{component-at, chain-one, passes-iff}
+use Rattle.bits.specs.Sets.{has, Gathered}
 use Rattle.bits.specs.Listed.{Listing}
 use Rattle.bits.specs.declared.Atoms.{Atoms}
 use Rattle.bits.proofs.Listing.{listed-has, listed-place, listed-apart}
@@ -85,6 +88,65 @@ module _ (names : List ℕ) (n c x : ℕ) (M : Members names n c x) where
           back : ((a : ℕ) (w : List ℕ) → Chain P (a ∷ w) → component P a ≡ c → Sublistᴰ (a ∷ w) s) → r ≡ true
           back h = T .is P setting .1 (λ p l w C. h (atom p) w C (atom-named p l))
 
+-- A component without atoms has no chains, and one of a single atom has one.
+module _ (names : List ℕ) (n c : ℕ) (P : Program) (rows : List ℕ) (G : Graph P n rows names) where
+  named-in : (a : ℕ) → a < P .atoms → component P a ≡ c → List·Memᴰ a (named names c n)
+  unfolding named
+  named-in a l e =
+      let h = G .size in
+      filter-in (λ a. eqb (getD names a 0) c) (range 0 n) a (range-in 0 n a (omega arith) (omega arith)) (eq-eqb (getD names a 0) c (G .named .name a l ∙ e))
+
+  chain-named : (a : ℕ) (w : List ℕ) → Chain P (a ∷ w) → component P a ≡ c → (b : ℕ) → List·Memᴰ b (a ∷ w) → List·Memᴰ b (named names c n)
+  chain-named a w C e b m =
+      let low = below-at (P .atoms) (a ∷ w) (C .atoms) in
+      named-in b (low b m) (sym (component-same P (G .formed) a b (low a (List·Memᴰ·head refl)) (component-at P (a ∷ w) C a b (List·Memᴰ·head refl) m)) ∙ e)
+
+  pub component-none : (s : List ℕ) (size : ℕ) → size ≡ length (named names c n) → size ≡ 0 → ComponentTested P c s true
+  component-none s size e z =
+      record { is = (λ _ a w C g. absurd (nothing (named names c n) (chain-named a w C g a (List·Memᴰ·head refl)) (sym e ∙ z)), λ _. refl) }
+    where
+      nothing : (l : List ℕ) {a : ℕ} → List·Memᴰ a l → length l ≡ 0 → ⊥
+      nothing [] m z = List·Memᴰ·not-nil m
+      nothing (x ∷ l) m z = omega arith
+
+  module _ (one : length (named names c n) ≡ 1) where
+    only : (l : List ℕ) → length l ≡ 1 → (x : ℕ) × List·Memᴰ x l × ((y : ℕ) → List·Memᴰ y l → y ≡ x)
+    only [] e = absurd (omega arith)
+    only (x ∷ []) e = (x, List·Memᴰ·head refl, λ y m. List·Memᴰ·eq-of-singleton m)
+    only (x ∷ y ∷ l) e = absurd (omega arith)
+
+    alone : (a b : ℕ) → List·Memᴰ a (named names c n) → List·Memᴰ b (named names c n) → a ≡ b
+    alone a b m k = let u = only (named names c n) one in u .2 a m ∙ sym (u .2 b k)
+
+    -- The atom is the component's name.
+    own : (c < P .atoms) × (component P c ≡ c)
+    unfolding named
+    own =
+        let u = only (named names c n) one in
+        let x = u .0 in
+        let m = filter-out (λ a. eqb (getD names a 0) c) (range 0 n) x (u .1) in
+        let low : x < P .atoms = let h = G .size in let r = range-out 0 n x (m .0) in omega (arith, r .high) in
+        let e : component P x ≡ c = sym (G .named .name x low) ∙ eqb-true (getD names x 0) c (m .1) in
+        let t = subst (λ y. together P x y ≡ true) e (component-together P (G .formed) x low) in
+        (together-below P (G .formed) x c low t, sym (component-same P (G .formed) x c low t) ∙ e)
+
+    alone-chain : (a : ℕ) (w : List ℕ) → Chain P (a ∷ w) → component P a ≡ c → a ∷ w ≡ c ∷ []
+    alone-chain a [] C e = ap (λ y. y ∷ []) (alone a c (chain-named a [] C e a (List·Memᴰ·head refl)) (named-in c (own .0) (own .1)))
+    alone-chain a (b ∷ w) C e =
+        absurd (nodup-head (C .different) (List·Memᴰ·head (alone a b (chain-named a (b ∷ w) C e a (List·Memᴰ·head refl)) (chain-named a (b ∷ w) C e b (List·Memᴰ·tail (List·Memᴰ·head refl))))))
+
+  pub component-alone : (s : List ℕ) (size x : ℕ) (b : Bool) → size ≡ length (named names c n) → size ≡ 1 → Gathered s x → b ≡ has x c → ComponentTested P c s b
+  component-alone s size x b e z K f =
+      record {
+        is = (
+          λ t a w C g. subst (λ l. Sublistᴰ l s) (sym (alone-chain one a w C g)) (sublist-mem (member-out c s (sym (K .members c) ∙ (sym f ∙ t)))),
+          λ h. f ∙ (K .members c ∙ member-in c s (mem-sublist (h c [] (chain-one P (G .formed) c (own one .0)) (own one .1)) (List·Memᴰ·head refl))),
+        );
+      }
+    where
+      one : length (named names c n) ≡ 1
+      one = sym e ∙ z
+
 -- The components named below c.
 pub record Sofar (P : Program) (s : List ℕ) (c : ℕ) : Type 0 where
   pub found : (a : ℕ) (w : List ℕ) → Chain P (a ∷ w) → component P a < c → Sublistᴰ (a ∷ w) s
@@ -142,3 +204,14 @@ component-few n rs names c N F l =
 
 pub below-64 : (n : ℕ) (l : List ℕ) → n ≤ 64 → below n l ≡ true → below 64 l ≡ true
 below-64 n l h e = below-in 64 l (λ a m. let k = below-at n l e a m in omega arith)
+
+-- The entries behind the header, as the code has them.
+module _ (q : List ℕ) where
+  behind : take (length q - 3) (drop 3 q) ≡ drop 3 q
+  behind = take-all (length q - 3) (drop 3 q) (let e = length-drop 3 q in omega arith)
+
+  pub entries-low : (n : ℕ) → n ≤ 64 → below n (drop 3 q) ≡ true → below 64 (take (length q - 3) (drop 3 q)) ≡ true
+  entries-low n h e = rw behind (below-64 n (drop 3 q) h e)
+
+  pub entries-gathered : (x : ℕ) → Gathered (take (length q - 3) (drop 3 q)) x → Gathered (drop 3 q) x
+  entries-gathered x K = rw behind at K

@@ -16,9 +16,9 @@ use Rattle.lists.proofs.Members.{below-at, below-in}
 use Rattle.lists.proofs.Sublists.{mem-sublist}
 use Rattle.asp.specs.Program.{Program}
 use Rattle.unfolding.specs.Graph.{edge, together}
-use Rattle.unfolding.specs.Chain.{Chain}
+use Rattle.unfolding.specs.Chain.{Chain, Started}
 use Rattle.unfolding.proofs.Chains.{component-at}
-use Rattle.unfolding.proofs.Starting.{Started, started-none, started-more, started-other, started-onward, started-own}
+use Rattle.unfolding.proofs.Starting.{started-none, started-more, started-other, started-onward, started-own}
 use Rattle.bits.specs.Sets.{has, ByteAt, Subset}
 use Rattle.bits.proofs.Digits.{zero-has, full-has}
 use Rattle.chains.specs.Table.{Setting, AtPlaces, Table, RowAfter, TableAfter, Followers, PlaceOf, Power, Entered, Tested}

@@ -1,5 +1,5 @@
 -- The chain question of one component: a table over the sets of its atoms.
-use mathlib.Core.Bool.{Bool, true, not, _&&_, _||_}
+use mathlib.Core.Bool.{Bool, true, false, not, _&&_, _||_}
 use mathlib.Core.List.{List, _∷_, Sublistᴰ}
 use mathlib.Core.Logic.{_↔_}
 use mathlib.Core.Path.{_≡_}
@@ -8,8 +8,7 @@ use lib.Dec.{eqb, ltb}
 use lib.ListN.{length, getD}
 use Rattle.asp.specs.Program.{Program, wellFormed}
 use Rattle.unfolding.specs.Graph.{edge, together, component}
-use Rattle.unfolding.specs.Chain.{Chain}
-use Rattle.unfolding.proofs.Starting.{Started}
+use Rattle.unfolding.specs.Chain.{Chain, Started}
 use Rattle.bits.specs.Sets.{has}
 use Rattle.components.specs.Table.{NamesOf}
 
@@ -39,6 +38,12 @@ pub record RowAfter (sets : List ℕ) (S i after r : ℕ) : Type 0 where
   pub covered : Bool
   pub asked : has S i ≡ true → (covered ≡ true) ↔ ((q : ℕ) → has after q ≡ true → has less q ≡ true → has (getD sets less 0) q ≡ true)
   pub members : (p : ℕ) → has r p ≡ (has (getD sets S 0) p || eqb p i && (has S i && covered))
+
+-- r is the first set above S that has place i.
+pub record NextWith (S i r : ℕ) : Type 0 where
+  pub rises : S < r
+  pub own : has r i ≡ true
+  pub between : (T : ℕ) → S < T → T < r → has T i ≡ false
 
 -- All rows below a size.
 pub record TableAfter (old : List ℕ) (size i after : ℕ) (new : List ℕ) : Type 0 where

@@ -1,5 +1,6 @@
 // The chain question: a table over the sets of a component's atoms, and one pass over the sequence from its last entry to its first.
 use bits::byte_at;
+use bits::gather;
 use bits::has;
 use bits::intersection;
 use bits::listed;
@@ -8,45 +9,59 @@ use bits::wide;
 use bits::with;
 use bits::with_if;
 use bits::without;
+use components::component_sizes;
 use components::edges;
 ghost use mathlib.Core.Path.{_≡_};
 ghost use mathlib.Core.Bool.{true};
-ghost use Prim.Native.Nat.{_+_, _≤_, _<_};
+ghost use Prim.Native.Nat.{_≤_, _<_};
 ghost use lib.ListN.{length, getD, drop};
 ghost use Rattle.lists.specs.Lists.{below};
 ghost use Rattle.asp.specs.Program.{Program};
 ghost use Rattle.unfolding.specs.Chain.{passes};
-ghost use Rattle.bits.specs.Sets.{has};
+ghost use Rattle.bits.specs.Sets.{has, Gathered};
 ghost use Rattle.bits.specs.Listed.{Low};
 ghost use Rattle.sheet.specs.Sheet.{Walk, recordsFrom, programOf};
 ghost use Rattle.components.specs.Table.{NamesOf, named, componentsFit};
-ghost use Rattle.chains.specs.Table.{RowAfter, TableAfter, Followers, PlaceOf, Power, Entered, Tested, Members, Graph, ComponentTested};
+ghost use Rattle.chains.specs.Table.{RowAfter, NextWith, TableAfter, Followers, PlaceOf, Power, Entered, Tested, Members, Graph, ComponentTested};
 
-// The row of the set after an entry at place i, which has edges to the places `after`.
+// The row of a set with i after an entry at place i, which has edges to the places `after`.
 fn row_after(sets: &[u64; 1024], set: usize, i: usize, after: u64) -> u64
-    requires { ⌜ (set < 1024) × (i < 64) ⌝ }
+    requires { ⌜ (set < 1024) × (i < 64) × (has set i ≡ true) ⌝ }
     ensures { λ r. ⌜ RowAfter (now (sets .entry)) set i after r ⌝ }
 {
     let row = sets[set];
     let less = without(set as u64, i);
-    if !has(set as u64, i) {
-        return row;
-    }
     if subset(intersection(after, less), sets[less as usize]) {
         return with(row, i);
     }
     row
 }
 
+// How many sets of k places there are.
+fn power(k: usize) -> usize
+    requires { ⌜ k ≤ 10 ⌝ }
+    ensures { λ r. ⌜ Power k r ⌝ }
+{
+    1 << k
+}
+
+// The set that comes next of those with i.
+fn next_with(set: usize, i: usize) -> usize
+    requires { ⌜ (set < 1024) × (i ≤ 10) × (has set i ≡ true) ⌝ }
+    ensures { λ r. ⌜ NextWith set i r ⌝ }
+{
+    (set + 1) | power(i)
+}
+
 // All rows below a size after such an entry: in place, since rows of sets with i are written and others are read.
 fn step(sets: &mut [u64; 1024], size: usize, i: usize, after: u64)
-    requires { ⌜ (length (now sets) ≡ 1024) × (size ≤ 1024) × (i < 64) ⌝ }
+    requires { ⌜ (length (now sets) ≡ 1024) × (size ≤ 1024) × (i ≤ 10) ⌝ }
     ensures { λ r. ⌜ TableAfter (now (sets .entry)) size i after (now (sets .exit)) ⌝ }
 {
-    let mut set = 0;
+    let mut set = power(i);
     while set < size {
         sets[set] = row_after(sets, set, i, after);
-        set += 1;
+        set = next_with(set, i);
     }
 }
 
@@ -86,14 +101,6 @@ fn place_of(atoms: &[u8; 16], k: usize, x: usize) -> usize
         p += 1;
     }
     k
-}
-
-// How many sets of k places there are.
-fn power(k: usize) -> usize
-    requires { ⌜ k ≤ 10 ⌝ }
-    ensures { λ r. ⌜ Power k r ⌝ }
-{
-    1 << k
 }
 
 // One entry more.
@@ -138,8 +145,8 @@ fn members(names: &[u8; 64], n: usize, c: usize) -> u64
     x
 }
 
-// Is every chain of the component named c found in the sequence?
-fn component_found(rows: &[u64; 64], names: &[u8; 64], n: usize, c: usize, q: &[u8]) -> bool
+// Is every chain of the component named c found in the sequence? By the table.
+fn table_found(rows: &[u64; 64], names: &[u8; 64], n: usize, c: usize, q: &[u8]) -> bool
     requires { ⌜ (n ≤ 64) × (length (named (now names) c n) ≤ 10) × (3 ≤ length (now q)) × (below 64 (drop 3 (now q)) ≡ true) ⌝ }
     ensures { λ r. ⌜ ((P : Program) → Graph P n (now (rows .entry)) (now (names .entry)) → ComponentTested P c (drop 3 (now (q .entry))) r) ⌝ }
 {
@@ -150,6 +157,28 @@ fn component_found(rows: &[u64; 64], names: &[u8; 64], n: usize, c: usize, q: &[
     chains_found(rows, &atoms, k, q)
 }
 
+// The same, with the component's size and the set of the sequence's atoms: an atom alone has one chain, itself.
+fn component_found(
+    rows: &[u64; 64],
+    names: &[u8; 64],
+    n: usize,
+    c: usize,
+    size: usize,
+    q: &[u8],
+    entries: u64,
+) -> bool
+    requires { ⌜ (n ≤ 64) × (c < n) × (size ≡ length (named (now names) c n)) × (length (named (now names) c n) ≤ 10) × (3 ≤ length (now q)) × (below 64 (drop 3 (now q)) ≡ true) × Gathered (drop 3 (now q)) entries ⌝ }
+    ensures { λ r. ⌜ ((P : Program) → Graph P n (now (rows .entry)) (now (names .entry)) → ComponentTested P c (drop 3 (now (q .entry))) r) ⌝ }
+{
+    if size == 0 {
+        return true;
+    }
+    if size == 1 {
+        return has(entries, c);
+    }
+    table_found(rows, names, n, c, q)
+}
+
 // The chain question, of m records over n atoms with their components' names.
 pub fn passes(s: &[u8], n: usize, m: usize, names: &[u8; 64], q: &[u8]) -> bool
     requires { ⌜ Walk (now s) n m 5 × (n ≤ 64) × NamesOf (programOf n (recordsFrom m (now s) 5)) (now names) × (componentsFit 10 (programOf n (recordsFrom m (now s) 5)) ≡ true) × (3 ≤ length (now q)) × (below n (drop 3 (now q)) ≡ true) ⌝ }
@@ -157,9 +186,12 @@ pub fn passes(s: &[u8], n: usize, m: usize, names: &[u8; 64], q: &[u8]) -> bool
 {
     let table = edges(s, n, m);
     let rows = table.rows;
+    let sizes = component_sizes(names, n);
+    let of = sizes.of;
+    let entries = gather(&q[3..]);
     let mut c = 0;
     while c < n {
-        if !component_found(&rows, names, n, c, q) {
+        if !component_found(&rows, names, n, c, of[c], q, entries) {
             return false;
         }
         c += 1;

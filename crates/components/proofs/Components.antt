@@ -13,7 +13,7 @@ use Rattle.lists.proofs.Members.{any-map, any-filter, all-cong, filter-cong, ra
 use Rattle.asp.specs.Program.{Rule, Program, wellFormed}
 use Rattle.unfolding.specs.Graph.{edge, together, first, component}
 use Rattle.unfolding.specs.Default.{members}
-use Rattle.unfolding.proofs.Reach.{together-refl}
+use Rattle.unfolding.proofs.Reach.{together-refl, component-smallest}
 use Rattle.bits.specs.Sets.{ByteAt}
 use Rattle.sheet.specs.Questions.{ask}
 use Rattle.sheet.specs.Format.{formQuestions}
@@ -21,7 +21,7 @@ use Rattle.sheet.specs.Sheet.{Record, recordsFrom, records, rulesOf, programOf,
 use Rattle.sheet.specs.declared.Limits.{Limits}
 use Rattle.sheet.proofs.Records.{then-zero, then-refused}
 use Rattle.sheet.proofs.Walk.{Formed, formed, walk-formed}
-use Rattle.components.specs.Table.{closed, Holds, Closed, links, bothWays, NamedBy, NamesOf, named, namesFit, componentsFit, sheetQuestions}
+use Rattle.components.specs.Table.{closed, Holds, Closed, links, bothWays, NamedBy, NamesOf, Leading, named, namesFit, componentsFit, sheetQuestions}
 use Rattle.components.specs.Analysed.{Analysed}
 use Rattle.components.specs.declared.Analysis.{Analysis}
 use Rattle.components.proofs.Warshall.{into, mutual-reach}
@@ -85,6 +85,15 @@ unfolding named members
 named-members P names N c =
     filter-cong (λ a. eqb (getD names a 0) c) (λ a. eqb (component P a) c) (range 0 (P .atoms)) (λ a m.
     let r = range-out 0 (P .atoms) a m in ap (λ x. eqb x c) (N .name a (omega (arith, r .high))))
+
+-- An atom's name is at most the atom.
+pub names-leading : (P : Program) (names : List ℕ) → wellFormed P ≡ true → NamesOf P names → Leading names (P .atoms)
+names-leading P names wf N =
+    record { low = λ a l. subst (λ c. c ≤ a) (sym (N .name a l)) (component-smallest P wf a a l (together-refl P wf a l)) }
+
+pub walk-leading : (s : List ℕ) (n m : ℕ) (names : List ℕ) → Walk s n m 5 → NamesOf (programOf n (recordsFrom m s 5)) names → Leading names n
+unfolding programOf
+walk-leading s n m names W N = names-leading (programOf n (recordsFrom m s 5)) names (walk-formed s n m W) N
 
 -- Question 7.
 fits-same : (P : Program) (names : List ℕ) → NamesOf P names → (most : ℕ) → namesFit most names (P .atoms) ≡ componentsFit most P

@@ -1,20 +1,20 @@
 -- Laws of the loops over the closed table and over the components' names.
 use mathlib.Core.Bool.{Bool, true, false, _&&_, cond}
-use mathlib.Core.List.{List}
+use mathlib.Core.List.{List, _∷_}
 use mathlib.Core.Path.{_≡_, refl, sym, _∙_, ap}
-use Prim.Native.Nat.{ℕ, suc, _+_, _-_, _%_, _≤_, _<_}
+use Prim.Native.Nat.{ℕ, _+_, _-_, _%_, _≤_, _<_}
 use native.Mathlib.Nat.{sub-zero, mod-eq-of-lt}
 use native.Mathlib.Omega.{arith}
 use borrow.Author.Tests.{eqb-true, eqb-false, eq-eqb, ne-eqb, le-leb, lt-leb}
 use lib.Dec.{eqb, leb}
-use lib.ListN.{length, getD, set, length-set, replicate, length-replicate}
+use lib.ListN.{length, getD, set, length-set, replicate, length-replicate, getD-replicate}
 use lib.Seq.{getD-set-same, getD-set-other}
 use Rattle.lists.specs.Lists.{all, filter, range}
 use Rattle.lists.proofs.Bools.{by-bool}
 use Rattle.lists.proofs.Members.{range-left, range-over}
 use Rattle.unfolding.specs.Graph.{first}
 use Rattle.bits.specs.Sets.{has}
-use Rattle.components.specs.Table.{bothWays, Smallest, NamedBy, named, CountOne, namesFit}
+use Rattle.components.specs.Table.{bothWays, Smallest, NamedBy, named, Leading, SizesOf, namesFit}
 
 pub mutual-yes : (rows : List ℕ) (a b : ℕ) (x y : Bool) → x ≡ has (getD rows a 0) b → x ≡ true → y ≡ has (getD rows b 0) a → y ≡ bothWays rows a b
 mutual-yes rows a b x y e t f = f ∙ sym (rw (sym e ∙ t) refl)
@@ -68,38 +68,60 @@ module _ (n : ℕ) (rows : List ℕ) where
   pub naming-end : (a : ℕ) (names : List ℕ) → Naming n rows a names → n ≤ a → NamedBy n rows names
   naming-end a names K l = record { long = K .long; name = λ i h. K .done i (omega arith) }
 
--- Sizes.
-pub one-yes : (x c r : ℕ) → r ≡ x → r ≡ c → CountOne x c 1
-one-yes x c r e f = record { is = sym (rw (eq-eqb x c (sym e ∙ f)) refl); small = omega arith }
-
-pub one-no : (x c r : ℕ) → r ≡ x → (r ≡ c → ⊥) → CountOne x c 0
-one-no x c r e ne = record { is = sym (rw (ne-eqb x c (λ f. ne (e ∙ f))) refl); small = omega arith }
-
+-- One name: what is counted, with those of the name from a on, is its size.
 pub record Counting (names : List ℕ) (c n a size : ℕ) : Type 0 where
   pub same : size + length (filter (λ i. eqb (getD names i 0) c) (range a (n - a))) ≡ length (named names c n)
   pub short : size ≤ a
 
 module _ (names : List ℕ) (c n : ℕ) where
-  pub counting-start : Counting names c n 0 0
+  counting-start : Counting names c n 0 0
   unfolding named
   counting-start =
       record { same = let e = ap (λ k. length (filter (λ i. eqb (getD names i 0) c) (range 0 k))) (sub-zero n) in omega arith; short = omega arith }
 
-  pub counting-turn : (a size r : ℕ) → Counting names c n a size → a < n → CountOne (getD names a 0) c r → Counting names c n (a + 1) (size + r)
-  unfolding filter
-  counting-turn a size r C l K =
-      let e = K .is in
-      let left : ℕ = length (filter (λ i. eqb (getD names i 0) c) (range (a + 1) (n - (a + 1)))) in
-      let s = ap (λ l. length (filter (λ i. eqb (getD names i 0) c) l)) (range-left a n l) in
-      by-bool (eqb (getD names a 0) c)
-      (λ t. let one : r ≡ 1 = rw t at e in let k : length (filter (λ i. eqb (getD names i 0) c) (range a (n - a))) ≡ suc left = rw t at s in
-      let q = C .same in let h = C .short in record { same = omega arith; short = omega arith })
-      (λ t. let none : r ≡ 0 = rw t at e in let k : length (filter (λ i. eqb (getD names i 0) c) (range a (n - a))) ≡ left = rw t at s in
-      let q = C .same in let h = C .short in record { same = omega arith; short = omega arith })
+  module _ (a size : ℕ) (C : Counting names c n a size) (l : a < n) where
+    step-length : length (filter (λ i. eqb (getD names i 0) c) (range a (n - a)))
+        ≡ length (cond (eqb (getD names a 0) c) (a ∷ filter (λ i. eqb (getD names i 0) c) (range (a + 1) (n - (a + 1)))) (filter (λ i. eqb (getD names i 0) c) (range (a + 1) (n - (a + 1)))))
+    unfolding filter
+    step-length = ap (λ l. length (filter (λ i. eqb (getD names i 0) c) l)) (range-left a n l)
 
-  pub counting-end : (a size : ℕ) → Counting names c n a size → n ≤ a → size ≡ length (named names c n)
+    counting-one : getD names a 0 ≡ c → Counting names c n (a + 1) (size + 1)
+    counting-one e = let k = rw (eq-eqb (getD names a 0) c e) at step-length in let q = C .same in let h = C .short in record { same = omega arith; short = omega arith }
+
+    counting-none : (getD names a 0 ≡ c → ⊥) → Counting names c n (a + 1) size
+    counting-none ne = let k = rw (ne-eqb (getD names a 0) c ne) at step-length in let q = C .same in let h = C .short in record { same = omega arith; short = omega arith }
+
+  counting-end : (a size : ℕ) → Counting names c n a size → n ≤ a → size ≡ length (named names c n)
   unfolding filter
   counting-end a size C l = let e = ap (λ l. length (filter (λ i. eqb (getD names i 0) c) l)) (range-over a n l) in let q = C .same in omega arith
+
+-- Every name.
+pub record Tallying (names : List ℕ) (n a : ℕ) (sizes : List ℕ) : Type 0 where
+  pub long : length sizes ≡ 64
+  pub inside : a ≤ n
+  pub counts : (c : ℕ) → c < 64 → Counting names c n a (getD sizes c 0)
+
+module _ (names : List ℕ) (n : ℕ) where
+  pub tallying-start : Tallying names n 0 (replicate 64 0)
+  tallying-start = record { long = length-replicate {A = ℕ} 64 0; inside = omega arith; counts = λ c l. rw (getD-replicate {A = ℕ} 64 c 0 0 l) (counting-start names c n) }
+
+  pub tallying-turn : (a d : ℕ) (sizes : List ℕ) → Tallying names n a sizes → a < n → d ≡ getD names a 0 → d < 64 → Tallying names n (a + 1) (set sizes d (getD sizes d 0 + 1))
+  tallying-turn a d sizes K l e low =
+      record {
+        long = length-set sizes d (getD sizes d 0 + 1) ∙ K .long;
+        inside = omega arith;
+        counts = λ c h. by-bool (eqb c d)
+            (λ t. let q = eqb-true c d t in
+            rw (q, getD-set-same sizes d (getD sizes d 0 + 1) 0 (let w = K .long in omega arith)) (counting-one names d n a (getD sizes d 0) (K .counts d low) l (sym e)))
+            (λ f. let ne = eqb-false c d f in
+            rw (getD-set-other sizes d c (getD sizes d 0 + 1) 0 ne) (counting-none names c n a (getD sizes c 0) (K .counts c h) l (λ g. ne (sym (e ∙ g)))));
+      }
+
+  pub tallying-end : (a : ℕ) (sizes : List ℕ) → Tallying names n a sizes → n ≤ a → SizesOf names n sizes
+  tallying-end a sizes K l = record { size = λ c h. counting-end names c n a (getD sizes c 0) (K .counts c h) l; few = λ c h. let k = K .counts c h .short in let m = K .inside in omega arith }
+
+  pub name-low : (a d : ℕ) → Leading names n → a < n → n ≤ 64 → d ≡ getD names a 0 → d < 64
+  name-low a d G l m e = let h = G .low a l in omega arith
 
 -- Question 7.
 pub record Fitting (most : ℕ) (names : List ℕ) (n c : ℕ) : Type 0 where
@@ -115,11 +137,12 @@ module _ (most : ℕ) (names : List ℕ) (n : ℕ) where
   unfolding all
   fitting-step c F l = sym (ap (all (λ i. leb (length (named names i n)) most)) (range-left c n l)) ∙ F .same
 
-  pub fitting-wide : (c r : ℕ) → Fitting most names n c → c < n → r ≡ length (named names c n) → most < r → false ≡ namesFit most names n
-  fitting-wide c r F l e h = rw (lt-leb (length (named names c n)) most (omega arith)) at (fitting-step c F l)
+  module _ (c : ℕ) (sizes : List ℕ) (F : Fitting most names n c) (l : c < n) (low : n ≤ 64) (S : SizesOf names n sizes) where
+    pub fitting-wide : most < getD sizes c 0 → false ≡ namesFit most names n
+    fitting-wide h = rw (lt-leb (length (named names c n)) most (omega (arith, S .size c (omega arith)))) at (fitting-step c F l)
 
-  pub fitting-turn : (c r : ℕ) → Fitting most names n c → c < n → r ≡ length (named names c n) → r ≤ most → Fitting most names n (c + 1)
-  fitting-turn c r F l e h = record { same = rw (le-leb (length (named names c n)) most (omega arith)) at (fitting-step c F l) }
+    pub fitting-turn : getD sizes c 0 ≤ most → Fitting most names n (c + 1)
+    fitting-turn h = record { same = rw (le-leb (length (named names c n)) most (omega (arith, S .size c (omega arith)))) at (fitting-step c F l) }
 
   pub fitting-end : (c : ℕ) → Fitting most names n c → n ≤ c → true ≡ namesFit most names n
   unfolding all

@@ -1,5 +1,5 @@
 -- Tables of rows of bits, and question 7.
-use mathlib.Core.Bool.{Bool, _&&_, _||_, cond}
+use mathlib.Core.Bool.{Bool, _&&_, _||_}
 use mathlib.Core.List.{List}
 use mathlib.Core.Path.{_≡_}
 use Prim.Native.Nat.{ℕ, zero, suc, _≤_, _<_}
@@ -80,10 +80,14 @@ pub record NamesOf (P : Program) (names : List ℕ) : Type 0 where
 unfoldable pub named : List ℕ → ℕ → ℕ → List ℕ
 named names c n = filter (λ a. eqb (getD names a 0) c) (range 0 n)
 
--- r is 1 where x is c, and else 0.
-pub record CountOne (x c r : ℕ) : Type 0 where
-  pub is : r ≡ cond (eqb x c) 1 0
-  pub small : r ≤ 1
+-- A name is at most each atom that has it: a component is named by its smallest atom.
+pub record Leading (names : List ℕ) (n : ℕ) : Type 0 where
+  pub low : (a : ℕ) → a < n → getD names a 0 ≤ a
+
+-- How many of the atoms below n have each name.
+pub record SizesOf (names : List ℕ) (n : ℕ) (sizes : List ℕ) : Type 0 where
+  pub size : (c : ℕ) → c < 64 → getD sizes c 0 ≡ length (named names c n)
+  pub few : (c : ℕ) → c < 64 → getD sizes c 0 ≤ n
 
 -- Question 7, by names.
 unfoldable pub namesFit : ℕ → List ℕ → ℕ → Bool

@@ -7,10 +7,8 @@ use sheet::Limits;
 use sheet::form_refusal;
 use sheet::next_record;
 ghost use mathlib.Core.Path.{_≡_};
-ghost use mathlib.Core.Bool.{Bool, true, _&&_, _||_};
-ghost use Prim.Native.Nat.{ℕ, _+_, _≤_, _<_};
-ghost use lib.ListN.{length, getD};
-ghost use Rattle.components.specs.Table.{through, closed, Holds, bothWays, Smallest, NamedBy, NamesOf, named, CountOne, namesFit, componentsFit, sheetQuestions, RowThrough, ClosedBy, Closed, Added, links};
+ghost use Prim.Native.Nat.{_≤_, _<_};
+ghost use Rattle.components.specs.Table.{closed, Holds, bothWays, Smallest, NamedBy, NamesOf, Leading, SizesOf, namesFit, RowThrough, ClosedBy, Closed, Added, links};
 ghost use Rattle.sheet.specs.Sheet.{Known, Walk, recordAt, recordsFrom, programOf};
 ghost use Rattle.components.specs.Analysed.{Analysed};
 
@@ -151,39 +149,36 @@ impl Reach {
     }
 }
 
-// One where the atom has this name, else nothing.
-fn is_named(names: &[u8; 64], a: usize, c: usize) -> usize
-    requires { ⌜ a < 64 ⌝ }
-    ensures { λ r. ⌜ CountOne (getD (now (names .entry)) a 0) c r ⌝ }
-{
-    if wide(names[a]) == c {
-        return 1;
-    }
-    0
+// The number of atoms of each name.
+pub struct Sizes {
+    pub of: [usize; 64],
 }
 
-// How many of the first n atoms have this name.
-pub fn size_of(names: &[u8; 64], n: usize, c: usize) -> usize
-    requires { ⌜ n ≤ 64 ⌝ }
-    ensures { λ r. ⌜ r ≡ length (named (now (names .entry)) c n) ⌝ }
+// How many of the first n atoms have each name.
+pub fn component_sizes(names: &[u8; 64], n: usize) -> Sizes
+    requires { ⌜ (n ≤ 64) × Leading (now names) n ⌝ }
+    ensures { λ r. ⌜ SizesOf (now (names .entry)) n (r .of) ⌝ }
 {
-    let mut size = 0;
+    let mut of = [0usize; 64];
     let mut a = 0;
     while a < n {
-        size += is_named(names, a, c);
+        let c = wide(names[a]);
+        of[c] = of[c] + 1;
         a += 1;
     }
-    size
+    Sizes { of }
 }
 
 // Question 7, of the first n atoms' names.
 fn fit(names: &[u8; 64], n: usize, most: usize) -> bool
-    requires { ⌜ n ≤ 64 ⌝ }
+    requires { ⌜ (n ≤ 64) × Leading (now names) n ⌝ }
     ensures { λ r. ⌜ r ≡ namesFit most (now (names .entry)) n ⌝ }
 {
+    let sizes = component_sizes(names, n);
+    let of = sizes.of;
     let mut c = 0;
     while c < n {
-        if most < size_of(names, n, c) {
+        if most < of[c] {
             return false;
         }
         c += 1;

@@ -19,14 +19,14 @@ use Rattle.sheet.specs.Format.{atomsByte}
 use Rattle.sheet.specs.Sheet.{programOf, program}
 use Rattle.sheet.specs.declared.Limits.{Limits}
 use Rattle.sheet.proofs.Records.{then-refused, then-zero}
-use Rattle.sheet.proofs.Walk.{formed}
-use Rattle.components.specs.Table.{NamesOf, sheetQuestions}
+use Rattle.sheet.proofs.Walk.{formed, program-formed}
+use Rattle.components.specs.Table.{NamesOf, Leading, SizesOf, sheetQuestions}
 use Rattle.components.specs.Analysed.{Analysed}
 use Rattle.components.specs.declared.Analysis.{Analysis}
-use Rattle.components.proofs.Components.{named-members}
+use Rattle.components.proofs.Components.{named-members, names-leading}
 use Rattle.writer.specs.Wrote.{Wrote}
 use Rattle.writer.proofs.Writing.{wrote-append, wrote-whole}
-use Rattle.outputs.specs.Names.{nameBytes, blockOf, blocksOf}
+use Rattle.outputs.specs.Names.{nameBytes, blockOf, blocksOf, BlocksLength}
 use Rattle.core.specs.Outcome.{refused, answered, Emits, Writes}
 use Rattle.core.specs.Outputs.{componentBytes, sequenceHeader, sequenceBytes, defaultBytes}
 use Rattle.core.specs.Operations.{componentsQuestions, defaultQuestions}
@@ -127,26 +127,32 @@ module _ (L : Limits) (s : List ℕ) (r : Analysis) (A : Analysed L s r) (z : r 
       let h = mul-le-mul-left 64 k in
       omega arith
 
-  pub entries-room : L .atoms ≤ 64 → L .component ≤ 64 → (r .atoms ≤ 64) × (length (blocksOf (r .names) (r .atoms)) < 4294967296)
-  entries-room l m = let k = entries-short l m in (low l, omega arith)
+  pub sizes-room : L .atoms ≤ 64 → (r .atoms ≤ 64) × Leading (r .names) (r .atoms)
+  unfolding program programOf
+  sizes-room l =
+      let A = A .accepted z in
+      (low l, subst (Leading (r .names)) (sym (A .atoms)) (names-leading (program s) (r .names) (program-formed L s (A .form)) (A .names)))
 
-  default-size : (t : ℕ) → t ≡ length (blocksOf (r .names) (r .atoms)) → length (defaultBytes s) ≡ t + 3
-  unfolding defaultBytes sequenceBytes
-  default-size t e = let k = ap length blocks in omega arith
+  module _ (sizes : List ℕ) (t : ℕ) (S : SizesOf (r .names) (r .atoms) sizes) (K : BlocksLength sizes (r .atoms) t) where
+    pub entries-few : L .atoms ≤ 64 → L .component ≤ 64 → t ≤ 4096
+    entries-few l m = let e = K .is (r .names) S in let k = entries-short l m in omega arith
 
-  pub default-full : (old : List ℕ) (t : ℕ) → t ≡ length (blocksOf (r .names) (r .atoms)) → length old < t + 3
-      → Writes (defaultQuestions L (length old) s) (defaultBytes s) old old (write.Refused 10)
-  default-full old t e l = room-full (sheetQuestions L s) (defaultBytes s) old accepted (let f = default-size t e in omega arith)
+    default-size : length (defaultBytes s) ≡ t + 3
+    unfolding defaultBytes sequenceBytes
+    default-size = let e = K .is (r .names) S in let k = ap length blocks in omega arith
 
-  pub default-done : (old mid new : List ℕ) (t at next : ℕ) → t ≡ length (blocksOf (r .names) (r .atoms)) → t + 3 ≤ length old
-      → Wrote old 0 (sequenceHeader t) mid at → Wrote mid at (blocksOf (r .names) (r .atoms)) new next
-      → Writes (defaultQuestions L (length old) s) (defaultBytes s) old new (write.Length next)
-  unfolding defaultBytes sequenceBytes
-  default-done old mid new t at next e l H B =
-      room-done (sheetQuestions L s) (defaultBytes s) old new next accepted (let f = default-size t e in omega arith)
-      (subst (λ b. Wrote old 0 b new next)
-      (ap (λ b. sequenceHeader t ++ b) blocks ∙ ap (λ k. sequenceHeader k ++ defaultSequence (program s)) (e ∙ ap length blocks))
-      (wrote-append old mid new (sequenceHeader t) (blocksOf (r .names) (r .atoms)) 0 at next H B))
+    pub default-full : (old : List ℕ) → length old < t + 3 → Writes (defaultQuestions L (length old) s) (defaultBytes s) old old (write.Refused 10)
+    default-full old l = room-full (sheetQuestions L s) (defaultBytes s) old accepted (let f = default-size in omega arith)
+
+    pub default-done : (old mid new : List ℕ) (at next : ℕ) → t + 3 ≤ length old
+        → Wrote old 0 (sequenceHeader t) mid at → Wrote mid at (blocksOf (r .names) (r .atoms)) new next
+        → Writes (defaultQuestions L (length old) s) (defaultBytes s) old new (write.Length next)
+    unfolding defaultBytes sequenceBytes
+    default-done old mid new at next l H B =
+        room-done (sheetQuestions L s) (defaultBytes s) old new next accepted (let f = default-size in omega arith)
+        (subst (λ b. Wrote old 0 b new next)
+        (ap (λ b. sequenceHeader t ++ b) blocks ∙ ap (λ k. sequenceHeader k ++ defaultSequence (program s)) (K .is (r .names) S ∙ ap length blocks))
+        (wrote-append old mid new (sequenceHeader t) (blocksOf (r .names) (r .atoms)) 0 at next H B))
 
 -- A header, byte by byte.
 pub header-written : (old a b new : List ℕ) (t p q r : ℕ) → Wrote old 0 (1 ∷ []) a p → Wrote a p (t / 256 % 256 ∷ []) b q → Wrote b q (t % 256 ∷ []) new r

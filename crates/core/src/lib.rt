@@ -5,7 +5,9 @@ use completion::numbers_of;
 use completion::put_clauses;
 use components::Analysis;
 use components::analyse;
+use components::component_sizes;
 use components::refused;
+use outputs::blocks_length;
 use outputs::put_blocks;
 use outputs::put_names;
 use sheet::Limits;
@@ -26,7 +28,6 @@ ghost use Rattle.asp.specs.Count.{count, verdict};
 ghost use Rattle.sheet.specs.Sheet.{Walk, program};
 ghost use Rattle.core.specs.Outcome.{readOf, bodyOf, testOf, clausesOf, verdictOf, countOf, outcome, Writes};
 ghost use Rattle.core.specs.Outputs.{componentBytes, defaultBytes, sequenceHeader, place, stretch, unfoldedWords};
-ghost use Rattle.outputs.specs.Names.{blocksOf};
 ghost use Rattle.writer.specs.Wrote.{Wrote};
 ghost use Rattle.core.specs.Bodies.{Placed, BodyFound};
 ghost use Rattle.core.specs.Operations.{readQuestions, bodyQuestions, componentsQuestions, defaultQuestions, testQuestions, unfoldedQuestions, countQuestions, countValues};
@@ -209,15 +210,6 @@ fn put_header(out: &mut [u8], t: usize) -> usize
     put(out, b, (t % 256) as u8)
 }
 
-// How many entries the default sequence has.
-fn default_entries(names: &[u8; 64], n: usize) -> usize
-    requires { ⌜ (n ≤ 64) × (length (blocksOf (now names) n) < 4294967296) ⌝ }
-    ensures { λ r. ⌜ r ≡ length (blocksOf (now (names .entry)) n) ⌝ }
-{
-    let mut none = [0u8; 0];
-    put_blocks(&mut none, 0, names, n)
-}
-
 // The default sequence, header included.
 pub fn default_sequence(limits: Limits, s: &[u8], out: &mut [u8]) -> WriteAnswer
     requires { ⌜ (limits .atoms ≤ 64) × (limits .component ≤ 64) ⌝ }
@@ -230,12 +222,14 @@ pub fn default_sequence(limits: Limits, s: &[u8], out: &mut [u8]) -> WriteAnswer
     }
     let n = a.atoms;
     let names = a.names;
-    let t = default_entries(&names, n);
+    let sizes = component_sizes(&names, n);
+    let of = sizes.of;
+    let t = blocks_length(&of, n);
     if out.len() < t + 3 {
         return WriteAnswer::Refused(10);
     }
     let at = put_header(out, t);
-    let length = put_blocks(out, at, &names, n);
+    let length = put_blocks(out, at, &names, &of, n);
     WriteAnswer::Length(length)
 }
 

@@ -52,7 +52,7 @@ members-differ P (c ∷ cs) d =
     named : (P : Program) (c x : ℕ) → List·Memᴰ x (members P c) → component P x ≡ c
     named P c x m = eqb-true (component P x) c (filter-out (λ a. eqb (component P a) c) (range 0 (P .atoms)) x m .1)
 
-length-times : (k : ℕ) (l : List ℕ) → length (times k l) ≡ k * length l
+pub length-times : (k : ℕ) (l : List ℕ) → length (times k l) ≡ k * length l
 unfolding times
 length-times zero l = let e = zero-mul (length l) in omega arith
 length-times (suc k) l = let e = length-append l (times k l) in let f = length-times k l in let g = suc-mul k (length l) in omega arith

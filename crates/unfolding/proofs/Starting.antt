@@ -1,6 +1,6 @@
 -- Chains from their first atom: how the chains found grow with one entry more in front of a sequence.
 use mathlib.Core.Bool.{true}
-use mathlib.Core.List.{List, [], _∷_, List·Memᴰ, List·Memᴰ·head, List·Memᴰ·tail, List·Memᴰ·cases-cons, List·Memᴰ·eq-of-singleton, Sublistᴰ, Sublistᴰ·cons, Sublistᴰ·cons-cons, Sublistᴰ·nil-sublist, Sublistᴰ·cases-cons-cons, Sublistᴰ·eq-nil, cons≢nil}
+use mathlib.Core.List.{List, [], _∷_, List·Memᴰ, List·Memᴰ·head, List·Memᴰ·tail, List·Memᴰ·cases-cons, List·Memᴰ·eq-of-singleton, Sublistᴰ·cons, Sublistᴰ·cons-cons, Sublistᴰ·nil-sublist, Sublistᴰ·cases-cons-cons, Sublistᴰ·eq-nil, cons≢nil}
 use mathlib.Core.Logic.{⊎-elim}
 use mathlib.Core.Path.{_≡_, refl, sym, subst}
 use Prim.Native.Nat.{ℕ, _<_}
@@ -10,13 +10,9 @@ use Rattle.lists.proofs.Nodup.{nodup-head}
 use Rattle.lists.proofs.Sublists.{sublist-tail}
 use Rattle.asp.specs.Program.{Program, wellFormed}
 use Rattle.unfolding.specs.Graph.{edge, together}
-use Rattle.unfolding.specs.Chain.{linked, Chain}
+use Rattle.unfolding.specs.Chain.{linked, Started}
 use Rattle.unfolding.proofs.Reach.{together-trans}
 use Rattle.unfolding.proofs.Chains.{component-at, chain-tail, chain-one, chain-cons}
-
--- Every chain that starts at a, its atoms all of X, is found in s.
-abbrev pub Started : Program → List ℕ → (ℕ → Type 0) → ℕ → Type 0
-Started P s X a = (w : List ℕ) → Chain P (a ∷ w) → ((b : ℕ) → List·Memᴰ b (a ∷ w) → X b) → Sublistᴰ (a ∷ w) s
 
 module _ (P : Program) (wf : wellFormed P ≡ true) where
   pub started-none : (X : ℕ → Type 0) (a : ℕ) → a < P .atoms → X a → Started P [] X a → ⊥

@@ -1,6 +1,6 @@
 -- Chains, and when a sequence passes the chain question ("Components and chains" of document 01, question 9).
 use mathlib.Core.Bool.{Bool, true, false, not, _&&_, _||_}
-use mathlib.Core.List.{List, [], _∷_, map, flatMap, List·Nodup, Sublistᴰ}
+use mathlib.Core.List.{List, [], _∷_, map, flatMap, List·Memᴰ, List·Nodup, Sublistᴰ}
 use mathlib.Core.Logic.{_≢_}
 use mathlib.Core.Path.{_≡_}
 use Prim.Native.Nat.{ℕ, zero, suc}
@@ -26,6 +26,10 @@ pub record Chain (P : Program) (w : List ℕ) : Type 0 where
 -- The sequence passes: every chain is found in it, its atoms met in order, gaps allowed.
 abbrev pub Passes : Program → List ℕ → Type 0
 Passes P s = (w : List ℕ) → Chain P w → Sublistᴰ w s
+
+-- Every chain that starts at a, its atoms all of X, is found in s.
+abbrev pub Started : Program → List ℕ → (ℕ → Type 0) → ℕ → Type 0
+Started P s X a = (w : List ℕ) → Chain P (a ∷ w) → ((b : ℕ) → List·Memᴰ b (a ∷ w) → X b) → Sublistᴰ (a ∷ w) s
 
 -- The atom b can stand in front of the chain w.
 unfoldable pub extends : Program → List ℕ → ℕ → Bool

@@ -1,22 +1,24 @@
 -- `chains::component_found` meets its contract, one law for each way through it.
 use borrow.Author.Needs.{needs}
-use Rattle.chains.proofs.Components.{members-few, places-few, component-tested}
-use Rattle.bits.proofs.Listing.{listed-low}
+use Rattle.chains.proofs.Components.{component-none, component-alone}
 use Rattle.chains.proofs.component_found.Statement.{statement}
 use Rattle.chains.proofs.component_found.Tie as tie
 
-members-requires : tie.Need-members-requires
-members-requires c κs = search needs
-
-listed-requires : tie.Need-listed-requires
-listed-requires c κs = search (needs, members-few)
-
-chains-found-requires : tie.Need-chains-found-requires
-chains-found-requires c κs = search (needs, places-few, listed-low)
-
 returns : tie.Need-returns
-returns c = search (needs, component-tested)
+returns c = search (needs, component-none)
+
+has-requires : tie.Need-has-requires
+has-requires c κs = search needs
+
+returns-2 : tie.Need-returns-2
+returns-2 c = search (needs, component-alone)
+
+table-found-requires : tie.Need-table-found-requires
+table-found-requires c κs = search needs
+
+returns-3 : tie.Need-returns-3
+returns-3 c = search needs
 
 pub component-found-spec : {M : Type 1} → statement M
 component-found-spec =
-    tie.close (tie.spec members-requires listed-requires chains-found-requires returns)
+    tie.close (tie.spec returns has-requires returns-2 table-found-requires returns-3)

@@ -1,7 +1,6 @@
 -- `chains::row_after` meets its contract, one law for each way through it.
-use borrow.Author.Tests.{not-true, not-false}
 use borrow.Author.Needs.{needs}
-use Rattle.chains.proofs.Rows.{row-idle, row-covered, row-lacking}
+use Rattle.chains.proofs.Rows.{row-covered, row-lacking}
 use Rattle.chains.proofs.row_after.Statement.{statement}
 use Rattle.chains.proofs.row_after.Tie as tie
 
@@ -13,12 +12,6 @@ element-copy-out-row c = search needs
 
 without-requires : tie.Need-without-requires
 without-requires c κs = search needs
-
-has-requires : tie.Need-has-requires
-has-requires c κs = search needs
-
-returns : tie.Need-returns
-returns c = search (needs, not-true, not-false, row-idle)
 
 intersection-requires : tie.Need-intersection-requires
 intersection-requires c κs = search needs
@@ -35,11 +28,11 @@ subset-requires c κs = search needs
 with-requires : tie.Need-with-requires
 with-requires c κs = search needs
 
-returns-2 : tie.Need-returns-2
-returns-2 c = search (needs, not-true, not-false, row-covered)
+returns : tie.Need-returns
+returns c = search (needs, row-covered)
 
-returns-3 : tie.Need-returns-3
-returns-3 c = search (needs, not-true, not-false, row-lacking)
+returns-2 : tie.Need-returns-2
+returns-2 c = search (needs, row-lacking)
 
 pub row-after-spec : {M : Type 1} → statement M
 row-after-spec =
@@ -48,12 +41,10 @@ row-after-spec =
     mul-row
     element-copy-out-row
     without-requires
-    has-requires
-    returns
     intersection-requires
     mul-subset
     element-copy-out-subset
     subset-requires
     with-requires
-    returns-2
-    returns-3)
+    returns
+    returns-2)

@@ -14,6 +14,9 @@ Inv-loop sets₀ size i after set₀ sets set = Stepping sets₀ i after set set
 abbrev μ-loop : tie.MeasureT-loop
 μ-loop sets₀ size i after set₀ sets set = size - set
 
+power-requires : tie.Need-power-requires Inv-loop μ-loop
+power-requires c κs = search needs
+
 loop-holds : tie.Need-loop-holds Inv-loop μ-loop
 loop-holds c = search (needs, stepping-start)
 
@@ -26,16 +29,16 @@ mul-sets c = search needs
 element-write-sets : tie.Need-element-write-sets Inv-loop μ-loop
 element-write-sets c = search needs
 
-add-set : tie.Need-add-set Inv-loop μ-loop
-add-set c = search needs
+next-with-requires : tie.Need-next-with-requires Inv-loop μ-loop
+next-with-requires c κs = search needs
 
 loop-less : tie.Need-loop-less Inv-loop μ-loop
 loop-less c = search needs
 
 loop-again : tie.Need-loop-again Inv-loop μ-loop
 loop-again c =
-    let i = c .before .before .before .loop .inv in
-    (stepping-turn _ _ _ (c .before .before .before .loop .set) (c .row-after .result) (c .before .before .before .loop .sets) (i .0) (omega arith) (c .row-after .ensures), i .1)
+    let k = c .before .before .before .before .loop in
+    (stepping-turn _ _ _ (k .set) (c .before .row-after .result) _ (k .sets) (k .inv .0) (omega arith) (c .before .row-after .ensures) (c .next-with .ensures), k .inv .1)
 
 returns : tie.Need-returns Inv-loop μ-loop
 returns c = search (needs, stepping-end)
@@ -46,11 +49,12 @@ step-spec =
     (tie.spec
     Inv-loop
     μ-loop
+    power-requires
     loop-holds
     row-after-requires
     mul-sets
     element-write-sets
-    add-set
+    next-with-requires
     loop-less
     loop-again
     returns)

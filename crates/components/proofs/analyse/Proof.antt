@@ -1,6 +1,6 @@
 -- `components::analyse` meets its contract, one law for each way through it.
 use borrow.Author.Needs.{needs}
-use Rattle.components.proofs.Components.{analysed-form, analysed-long, analysed-low, analysed-walk, analysed-wide, analysed-fine}
+use Rattle.components.proofs.Components.{analysed-form, analysed-long, analysed-low, analysed-walk, analysed-wide, analysed-fine, walk-leading}
 use Rattle.components.proofs.analyse.Statement.{statement}
 use Rattle.components.proofs.analyse.Tie as tie
 
@@ -23,7 +23,7 @@ component-names-requires : tie.Need-component-names-requires
 component-names-requires c κs = search (needs, analysed-low, analysed-walk)
 
 fit-requires : tie.Need-fit-requires
-fit-requires c κs = search (needs, analysed-low)
+fit-requires c κs = search (needs, analysed-low, analysed-walk, walk-leading)
 
 returns-2 : tie.Need-returns-2
 returns-2 c = search (needs, analysed-fine)

@@ -6,16 +6,22 @@ use Rattle.components.proofs.fit.Statement.{statement}
 use Rattle.components.proofs.fit.Tie as tie
 
 abbrev Inv-loop : tie.InvT-loop
-Inv-loop names n most c₀ c = Fitting most names n c
+Inv-loop names n most of c₀ c = Fitting most names n c
 
 abbrev μ-loop : tie.MeasureT-loop
-μ-loop names n most c₀ c = n - c
+μ-loop names n most of c₀ c = n - c
+
+component-sizes-requires : tie.Need-component-sizes-requires Inv-loop μ-loop
+component-sizes-requires c κs = search needs
 
 loop-holds : tie.Need-loop-holds Inv-loop μ-loop
 loop-holds c = search (needs, fitting-start)
 
-size-of-requires : tie.Need-size-of-requires Inv-loop μ-loop
-size-of-requires c κs = search needs
+mul-if1 : tie.Need-mul-if1 Inv-loop μ-loop
+mul-if1 c = search needs
+
+array-read-if1 : tie.Need-array-read-if1 Inv-loop μ-loop
+array-read-if1 c = search needs
 
 returns : tie.Need-returns Inv-loop μ-loop
 returns c = search (needs, fitting-wide)
@@ -38,8 +44,10 @@ fit-spec =
     (tie.spec
     Inv-loop
     μ-loop
+    component-sizes-requires
     loop-holds
-    size-of-requires
+    mul-if1
+    array-read-if1
     returns
     add-c
     loop-less

@@ -1,7 +1,7 @@
 -- `core::default_sequence` meets its contract, one law for each way through it.
 use native.Mathlib.Omega.{arith}
 use borrow.Author.Needs.{needs}
-use Rattle.core.proofs.Writing.{room-refused, entries-short, entries-room, default-full, default-done}
+use Rattle.core.proofs.Writing.{room-refused, entries-short, sizes-room, entries-few, default-full, default-done}
 use Rattle.core.proofs.default_sequence.Statement.{statement}
 use Rattle.core.proofs.default_sequence.Tie as tie
 
@@ -11,11 +11,14 @@ analyse-requires c κs = search needs
 returns : tie.Need-returns
 returns c = search (needs, room-refused)
 
-default-entries-requires : tie.Need-default-entries-requires
-default-entries-requires c κs = entries-room _ _ _ (c .before .before .before .analyse .ensures) (c .before .before .if1 .left) (search needs) (search needs)
+component-sizes-requires : tie.Need-component-sizes-requires
+component-sizes-requires c κs = sizes-room _ _ _ (c .before .before .before .analyse .ensures) (c .before .before .if1 .left) (search needs)
+
+blocks-length-requires : tie.Need-blocks-length-requires
+blocks-length-requires c κs = (sizes-room _ _ _ (c .before .before .before .before .before .before .analyse .ensures) (c .before .before .before .before .before .if1 .left) (search needs) .0, c .before .before .component-sizes .ensures .few)
 
 add-if2 : tie.Need-add-if2
-add-if2 c = omega (arith, c .default-entries .ensures, entries-short _ _ _ (c .before .before .before .before .analyse .ensures) (c .before .before .before .if1 .left) (search needs) (search needs))
+add-if2 c = omega (arith, entries-few _ _ _ (c .before .before .before .before .before .before .before .analyse .ensures) (c .before .before .before .before .before .before .if1 .left) _ _ (c .before .before .before .component-sizes .ensures) (c .blocks-length .ensures) (search needs) (search needs))
 
 returns-2 : tie.Need-returns-2
 returns-2 c = search (needs, default-full)
@@ -25,9 +28,9 @@ put-header-requires c κs = search needs
 
 put-blocks-requires : tie.Need-put-blocks-requires
 put-blocks-requires c κs =
-    let few = entries-short _ _ _ (c .before .before .before .before .before .before .before .before .before .before .before .analyse .ensures) (c .before .before .before .before .before .before .before .before .before .before .if1 .left) (search needs) (search needs) in
-    let room = entries-room _ _ _ (c .before .before .before .before .before .before .before .before .before .before .before .analyse .ensures) (c .before .before .before .before .before .before .before .before .before .before .if1 .left) (search needs) (search needs) in
-    (room .0, omega (arith, c .before .before .before .before .put-header .ensures .moved))
+    let room = sizes-room _ _ _ (c .before .before .before .before .before .before .before .before .before .before .before .before .before .before .before .analyse .ensures) (c .before .before .before .before .before .before .before .before .before .before .before .before .before .before .if1 .left) (search needs) in
+    let few = entries-short _ _ _ (c .before .before .before .before .before .before .before .before .before .before .before .before .before .before .before .analyse .ensures) (c .before .before .before .before .before .before .before .before .before .before .before .before .before .before .if1 .left) (search needs) (search needs) in
+    (room .0, room .1, c .before .before .before .before .before .before .before .before .before .before .before .component-sizes .ensures, omega (arith, c .before .before .before .before .before .put-header .ensures .moved))
 
 same-length : tie.Need-same-length
 same-length c = search needs
@@ -41,7 +44,8 @@ default-sequence-spec =
     (tie.spec
     analyse-requires
     returns
-    default-entries-requires
+    component-sizes-requires
+    blocks-length-requires
     add-if2
     returns-2
     put-header-requires

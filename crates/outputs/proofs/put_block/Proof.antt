@@ -4,25 +4,22 @@ use borrow.Author.Needs.{needs}
 use Rattle.components.specs.Table.{named}
 use Rattle.lists.specs.Lists.{times}
 use Rattle.outputs.proofs.Loops.{block-start, block-next, block-size, block-end}
-use Rattle.outputs.proofs.put_block.Statement.{statement}
-use Rattle.outputs.proofs.put_block.Tie as tie
 use Rattle.outputs.specs.Names.{blockOf}
 use Rattle.writer.proofs.Writing.{Left, left-start, left-turn, left-length, left-end}
+use Rattle.outputs.proofs.put_block.Statement.{statement}
+use Rattle.outputs.proofs.put_block.Tie as tie
 
 abbrev Inv-loop : tie.InvT-loop
-Inv-loop out₀ at names n c pos₀ left₀ out pos left = Left out₀ at (blockOf names n c) out pos (times left (named names c n))
+Inv-loop out₀ at names n c size pos₀ left₀ out pos left = Left out₀ at (blockOf names n c) out pos (times left (named names c n))
 
 abbrev μ-loop : tie.MeasureT-loop
-μ-loop out₀ at names n c pos₀ left₀ out pos left = left
-
-size-of-requires : tie.Need-size-of-requires Inv-loop μ-loop
-size-of-requires c κs = search needs
+μ-loop out₀ at names n c size pos₀ left₀ out pos left = left
 
 loop-holds : tie.Need-loop-holds Inv-loop μ-loop
 loop-holds c = search (needs, left-start, block-start)
 
 put-members-requires : tie.Need-put-members-requires Inv-loop μ-loop
-put-members-requires c κs = (omega arith, omega (arith, block-size (c .before .before .before .before .before .args .names .now) (c .before .before .before .before .before .args .n) (c .before .before .before .before .before .args .c) (c .before .before .loop .left) (omega arith)))
+put-members-requires c κs = let pre = c .before .before .before .before .pre in (pre .0, pre .1, pre .2, pre .3, omega (arith, block-size (c .before .before .before .before .args .names .now) (c .before .before .before .before .args .n) (c .before .before .before .before .args .c) (c .before .before .loop .left) (omega arith)))
 
 sub-left : tie.Need-sub-left Inv-loop μ-loop
 sub-left c = search needs
@@ -45,7 +42,6 @@ put-block-spec =
     (tie.spec
     Inv-loop
     μ-loop
-    size-of-requires
     loop-holds
     put-members-requires
     sub-left
