@@ -1,3 +1,3 @@
 pub mod Collected
 pub mod Negated
-pub mod Tallied
+pub mod SheetCounted
