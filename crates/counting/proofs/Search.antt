@@ -478,3 +478,6 @@ seeking-end d a S l s ne =
     absurd (ne (digits-same 64 d 0 s (omega arith) (λ b. by-bool (ltb b 64)
     (λ t. let k = ltb-true b 64 t in S .passed b (omega arith) ∙ sym (zero-has b))
     (λ f. let k = ltb-false b 64 f in let p = pow-mono {i = 64} {j = b} k in ap (λ q. eqb (q % 2) 1) (div-eq-of-lt {n = d} {m = 2 ^ b} (omega arith)) ∙ sym (zero-has b)))))
+
+pub better-here : (d a best : ℕ) (b : Bool) → a < 64 → b ≡ has d a → b ≡ true → Member d best → Member d a
+better-here d a best b l e t _ = seeking-found d a b l e t

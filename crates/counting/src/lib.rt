@@ -2,6 +2,7 @@
 use bits::difference;
 use bits::has;
 use bits::intersection;
+use bits::size;
 use bits::subset;
 use bits::union;
 use bits::wide;
@@ -299,6 +300,112 @@ fn lowest(d: u64) -> usize
     0
 }
 
+// What it settles to decide an atom, 0 where it is not in d: how many atoms its being out adds to the lower bound or its being
+// in takes from the upper bound u, and more than any number of atoms where one of the two is refuted.
+fn weight(
+    heads: &[u8; 128],
+    pos: &[u64; 128],
+    neg: &[u64; 128],
+    gate: &[u64; 128],
+    back: &[u8; 128],
+    k: usize,
+    d: u64,
+    i: u64,
+    o: u64,
+    l: u64,
+    u: u64,
+    a: usize,
+) -> u32
+    requires { ⌜ (k ≤ 128) × Low (now heads) k × (a < 64) ⌝ }
+{
+    if !has(d, a) {
+        return 0;
+    }
+    let outs = with(o, a);
+    let more = least(heads, pos, neg, gate, back, k, true, i, outs, l);
+    if intersection(more, outs) != 0 {
+        return 65;
+    }
+    let ins = with(i, a);
+    let rest = least(heads, pos, neg, gate, back, k, false, ins, o, l);
+    if !subset(ins, rest) {
+        return 65;
+    }
+    size(union(difference(more, l), difference(u, rest)))
+}
+
+fn higher(a: u32, b: u32) -> u32 {
+    if b < a {
+        return a;
+    }
+    b
+}
+
+// The atom a, where it is in d and heavier than best.
+fn better(d: u64, a: usize, w: u32, best: usize, most: u32) -> usize
+    requires { ⌜ a < 64 ⌝ }
+    ensures { λ r. ⌜ (Member d best → Member d r) ⌝ }
+{
+    if has(d, a) {
+        if most < w {
+            return a;
+        }
+        return best;
+    }
+    best
+}
+
+// An atom of d that settles most.
+fn heaviest(
+    heads: &[u8; 128],
+    pos: &[u64; 128],
+    neg: &[u64; 128],
+    gate: &[u64; 128],
+    back: &[u8; 128],
+    k: usize,
+    d: u64,
+    i: u64,
+    o: u64,
+    l: u64,
+) -> usize
+    requires { ⌜ (k ≤ 128) × Low (now heads) k × (d ≡ 0 → ⊥) ⌝ }
+    ensures { λ r. ⌜ Member d r ⌝ }
+{
+    let u = least(heads, pos, neg, gate, back, k, false, i, o, l);
+    let mut best = lowest(d);
+    let mut most: u32 = 0;
+    let mut a = 0;
+    while a < 64 {
+        let w = weight(heads, pos, neg, gate, back, k, d, i, o, l, u, a);
+        best = better(d, a, w, best, most);
+        most = higher(w, most);
+        a += 1;
+    }
+    best
+}
+
+// The atom of d to decide next. With few left to decide the search is short, and to weigh them would take longer.
+fn pick(
+    heads: &[u8; 128],
+    pos: &[u64; 128],
+    neg: &[u64; 128],
+    gate: &[u64; 128],
+    back: &[u8; 128],
+    k: usize,
+    d: u64,
+    i: u64,
+    o: u64,
+    l: u64,
+) -> usize
+    requires { ⌜ (k ≤ 128) × Low (now heads) k × (d ≡ 0 → ⊥) ⌝ }
+    ensures { λ r. ⌜ Member d r ⌝ }
+{
+    if size(d) <= 8 {
+        return lowest(d);
+    }
+    heaviest(heads, pos, neg, gate, back, k, d, i, o, l)
+}
+
 // The number of settled states that have i and nothing of o, where the atoms of x are to be decided.
 pub fn branch(
     heads: &[u8; 128],
@@ -330,7 +437,7 @@ pub fn branch(
     if d == 0 {
         return last(heads, pos, neg, gate, back, k, cpos, cneg, m, ins, outs, l);
     }
-    let c = lowest(d);
+    let c = pick(heads, pos, neg, gate, back, k, d, ins, outs, l);
     let inside = branch(
         heads,
         pos,

@@ -13,7 +13,7 @@ use Rattle.bits.proofs.difference.Reads as difference-reads
 use Rattle.bits.proofs.union.Reads as union-reads
 use Rattle.bits.proofs.with.Reads as with-reads
 use Rattle.counting.proofs.last.Reads as last-reads
-use Rattle.counting.proofs.lowest.Reads as lowest-reads
+use Rattle.counting.proofs.pick.Reads as pick-reads
 use Rattle.counting.proofs.settle.Reads as settle-reads
 use Rattle.counting.proofs.+branch.{statement}
 use Rattle.counting.proofs.+branch.Tie.{close}
@@ -38,8 +38,8 @@ called t = (
   difference-reads.Learnt,
   last-reads.Asked,
   last-reads.Learnt,
-  lowest-reads.Asked,
-  lowest-reads.Learnt,
+  pick-reads.Asked,
+  pick-reads.Learnt,
   with-reads.Asked,
   with-reads.Learnt,
   branch-below t,
@@ -66,33 +66,33 @@ branch-returns-2 t c =
     let a = c .before .before .before .before in
     found-last _ _ _ _ _ _ _ _ _ _ (a .before .settle .ensures) _ _ (c .before .before .before .union .ensures) (c .before .before .difference .ensures) _ _ _ _ (a .if1 .left) (c .before .if2 .taken) (c .last .ensures)
 
-branch-lowest-requires : (t : ℕ) → branch-lts.Need-lowest-requires (called t) (branch-at t) branch.Post
-branch-lowest-requires t c κs = search needs
+branch-pick-requires : (t : ℕ) → branch-lts.Need-pick-requires (called t) (branch-at t) branch.Post
+branch-pick-requires t c κs = search needs
 
 branch-with-requires : (t : ℕ) → branch-lts.Need-with-requires (called t) (branch-at t) branch.Post
-branch-with-requires t c κs = c .lowest .ensures .low
+branch-with-requires t c κs = c .pick .ensures .low
 
 branch-branch-requires : (t : ℕ) → branch-lts.Need-branch-requires (called t) (branch-at t) branch.Post
 branch-branch-requires t c κs =
     let a = c .before .before .before in
-    let less = fewer-in _ _ _ _ _ _ _ _ _ _ (a .before .before .before .settle .ensures) _ _ (a .before .union .ensures) (a .difference .ensures) _ (c .before .lowest .ensures) _ (c .with .ensures) in
+    let less = fewer-in _ _ _ _ _ _ _ _ _ _ (a .before .before .before .settle .ensures) _ _ (a .before .union .ensures) (a .difference .ensures) _ (c .before .pick .ensures) _ (c .with .ensures) in
     let pre = a .before .before .before .before .pre in
     (falls-below _ _ _ less (pre .0), (pre .1 .0, pre .1 .1, pre .1 .2, stays-few _ _ less (pre .1 .3)))
 
 branch-with-requires-2 : (t : ℕ) → branch-lts.Need-with-requires-2 (called t) (branch-at t) branch.Post
-branch-with-requires-2 t c κs = c .before .before .lowest .ensures .low
+branch-with-requires-2 t c κs = c .before .before .pick .ensures .low
 
 branch-branch-requires-2 : (t : ℕ) → branch-lts.Need-branch-requires-2 (called t) (branch-at t) branch.Post
 branch-branch-requires-2 t c κs =
     let a = c .before .before .before .before .before in
-    let less = fewer-out _ _ _ _ _ _ _ _ _ _ (a .before .before .before .settle .ensures) _ _ (a .before .union .ensures) (a .difference .ensures) _ (c .before .before .before .lowest .ensures) _ (c .with2 .ensures) in
+    let less = fewer-out _ _ _ _ _ _ _ _ _ _ (a .before .before .before .settle .ensures) _ _ (a .before .union .ensures) (a .difference .ensures) _ (c .before .before .before .pick .ensures) _ (c .with2 .ensures) in
     let pre = a .before .before .before .before .pre in
     (falls-below _ _ _ less (pre .0), (pre .1 .0, pre .1 .1, pre .1 .2, stays-few _ _ less (pre .1 .3)))
 
 branch-returns-3 : (t : ℕ) → branch-lts.Need-returns-3 (called t) (branch-at t) branch.Post
 branch-returns-3 t c =
     let a = c .before .before .before .before .before .before in
-    found-sum _ _ _ _ _ _ _ _ _ _ (a .before .before .before .settle .ensures) _ _ (a .before .union .ensures) (a .difference .ensures) _ (c .before .before .before .before .lowest .ensures)
+    found-sum _ _ _ _ _ _ _ _ _ _ (a .before .before .before .settle .ensures) _ _ (a .before .union .ensures) (a .difference .ensures) _ (c .before .before .before .before .pick .ensures)
     _ _ _ _ _ _ _ (a .before .before .if1 .left) (c .before .before .before .with .ensures) (c .before .with2 .ensures) (c .before .before .branch .ensures) (c .branch2 .ensures)
 
 branch-add-result : (t : ℕ) → branch-lts.Need-add-result (called t) (branch-at t) branch.Post
@@ -108,7 +108,7 @@ pub +branch-spec : {M : Type 1} → statement M
     (branch-difference-requires t)
     (branch-last-requires t)
     (branch-returns-2 t)
-    (branch-lowest-requires t)
+    (branch-pick-requires t)
     (branch-with-requires t)
     (branch-branch-requires t)
     (branch-with-requires-2 t)
