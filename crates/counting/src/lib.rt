@@ -8,9 +8,9 @@ use bits::union;
 use bits::wide;
 use bits::with;
 ghost use mathlib.Core.Path.{_≡_};
-ghost use Prim.Native.Nat.{_+_, _≤_, _<_};
+ghost use Prim.Native.Nat.{_≤_, _<_};
 ghost use lib.ListN.{getD};
-ghost use Rattle.counting.specs.Rules.{Applies, Fired, FiredAt, PassedBy, LeastBy, BodyHolds, Lawful};
+ghost use Rattle.counting.specs.Rules.{Applies, Fired, FiredAt, Onward, Returning, LeastBy, BodyHolds, Lawful};
 ghost use Rattle.bits.specs.Listed.{Low};
 ghost use Rattle.counting.specs.Search.{Leaf, Member, undecided, Last, Narrowed, Round, Counted};
 
@@ -66,7 +66,7 @@ fn fire_at(
 // The index to go on at: behind j, or the one given where the set has grown.
 fn onward(x: u64, y: u64, back: u8, j: usize) -> usize
     requires { ⌜ j < 128 ⌝ }
-    ensures { λ r. ⌜ (x ≡ y → r ≡ j + 1) ⌝ }
+    ensures { λ r. ⌜ Onward x y back j r ⌝ }
 {
     if x != y {
         return wide(back);
@@ -74,33 +74,8 @@ fn onward(x: u64, y: u64, back: u8, j: usize) -> usize
     j + 1
 }
 
-// A pass over the first k rules: where the rule at j adds its head, it goes on at back[j].
-fn pass(
-    heads: &[u8; 128],
-    pos: &[u64; 128],
-    neg: &[u64; 128],
-    gate: &[u64; 128],
-    back: &[u8; 128],
-    k: usize,
-    sure: bool,
-    i: u64,
-    o: u64,
-    l: u64,
-) -> u64
-    requires { ⌜ (k ≤ 128) × Low (now heads) k ⌝ }
-    ensures { λ r. ⌜ PassedBy (now (heads .entry)) (now (pos .entry)) (now (neg .entry)) (now (gate .entry)) k sure i o l r ⌝ }
-{
-    let mut x = l;
-    let mut j = 0;
-    while j < k {
-        let y = fire_at(heads, pos, neg, gate, j, sure, i, o, x);
-        j = onward(x, y, back[j], j);
-        x = y;
-    }
-    x
-}
-
-// Passes until nothing is added: from a set inside the least model, the least model.
+// From a set inside the least model, the least model, by a pass over the rules: where the rule at j adds its head, it goes on at
+// back[j].
 fn least(
     heads: &[u8; 128],
     pos: &[u64; 128],
@@ -113,14 +88,15 @@ fn least(
     o: u64,
     start: u64,
 ) -> u64
-    requires { ⌜ (k ≤ 128) × Low (now heads) k ⌝ }
+    requires { ⌜ (k ≤ 128) × Low (now heads) k × Returning (now heads) (now pos) (now back) k ⌝ }
     ensures { λ r. ⌜ LeastBy (now (heads .entry)) (now (pos .entry)) (now (neg .entry)) (now (gate .entry)) k sure i o start r ⌝ }
 {
     let mut x = start;
-    let mut next = pass(heads, pos, neg, gate, back, k, sure, i, o, x);
-    while next != x {
-        x = next;
-        next = pass(heads, pos, neg, gate, back, k, sure, i, o, x);
+    let mut j = 0;
+    while j < k {
+        let y = fire_at(heads, pos, neg, gate, j, sure, i, o, x);
+        j = onward(x, y, back[j], j);
+        x = y;
     }
     x
 }
@@ -179,7 +155,7 @@ fn last(
     o: u64,
     start: u64,
 ) -> u64
-    requires { ⌜ (k ≤ 128) × Low (now heads) k × (m ≤ 128) ⌝ }
+    requires { ⌜ (k ≤ 128) × Low (now heads) k × Returning (now heads) (now pos) (now back) k × (m ≤ 128) ⌝ }
     ensures { λ r. ⌜ Last (now (heads .entry)) (now (pos .entry)) (now (neg .entry)) (now (gate .entry)) k (now (cpos .entry)) (now (cneg .entry)) m i o start r ⌝ }
 {
     let l = least(heads, pos, neg, gate, back, k, true, i, o, start);
@@ -213,7 +189,7 @@ fn narrow(
     start: u64,
     grown: bool,
 ) -> Bounds
-    requires { ⌜ (k ≤ 128) × Low (now heads) k ⌝ }
+    requires { ⌜ (k ≤ 128) × Low (now heads) k × Returning (now heads) (now pos) (now back) k ⌝ }
     ensures { λ r. ⌜ Round (now (heads .entry)) (now (pos .entry)) (now (neg .entry)) (now (gate .entry)) k x i o start r ⌝ }
 {
     let l = least(heads, pos, neg, gate, back, k, true, i, o, start);
@@ -273,7 +249,7 @@ fn settle(
     start: u64,
     grown: bool,
 ) -> Bounds
-    requires { ⌜ (k ≤ 128) × Low (now heads) k ⌝ }
+    requires { ⌜ (k ≤ 128) × Low (now heads) k × Returning (now heads) (now pos) (now back) k ⌝ }
     ensures { λ r. ⌜ Narrowed (now (heads .entry)) (now (pos .entry)) (now (neg .entry)) (now (gate .entry)) k x i o start r ⌝ }
 {
     let mut seen = o;
@@ -316,7 +292,7 @@ fn weight(
     u: u64,
     a: usize,
 ) -> u32
-    requires { ⌜ (k ≤ 128) × Low (now heads) k × (a < 64) ⌝ }
+    requires { ⌜ (k ≤ 128) × Low (now heads) k × Returning (now heads) (now pos) (now back) k × (a < 64) ⌝ }
 {
     if !has(d, a) {
         return 0;
@@ -368,7 +344,7 @@ fn heaviest(
     o: u64,
     l: u64,
 ) -> usize
-    requires { ⌜ (k ≤ 128) × Low (now heads) k × (d ≡ 0 → ⊥) ⌝ }
+    requires { ⌜ (k ≤ 128) × Low (now heads) k × Returning (now heads) (now pos) (now back) k × (d ≡ 0 → ⊥) ⌝ }
     ensures { λ r. ⌜ Member d r ⌝ }
 {
     let u = least(heads, pos, neg, gate, back, k, false, i, o, l);
@@ -397,7 +373,7 @@ fn pick(
     o: u64,
     l: u64,
 ) -> usize
-    requires { ⌜ (k ≤ 128) × Low (now heads) k × (d ≡ 0 → ⊥) ⌝ }
+    requires { ⌜ (k ≤ 128) × Low (now heads) k × Returning (now heads) (now pos) (now back) k × (d ≡ 0 → ⊥) ⌝ }
     ensures { λ r. ⌜ Member d r ⌝ }
 {
     if size(d) <= 8 {
@@ -423,7 +399,7 @@ pub fn branch(
     start: u64,
     grown: bool,
 ) -> u64
-    requires { ⌜ (k ≤ 128) × Low (now heads) k × (m ≤ 128) × (undecided x i o ≤ 16) ⌝ }
+    requires { ⌜ (k ≤ 128) × Low (now heads) k × Returning (now heads) (now pos) (now back) k × (m ≤ 128) × (undecided x i o ≤ 16) ⌝ }
     ensures { λ r. ⌜ Counted (now (heads .entry)) (now (pos .entry)) (now (neg .entry)) (now (gate .entry)) k (now (cpos .entry)) (now (cneg .entry)) m x i o start r ⌝ }
 {
     let b = settle(heads, pos, neg, gate, back, k, x, i, o, start, grown);

@@ -77,7 +77,7 @@ branch-branch-requires t c κs =
     let a = c .before .before .before in
     let less = fewer-in _ _ _ _ _ _ _ _ _ _ (a .before .before .before .settle .ensures) _ _ (a .before .union .ensures) (a .difference .ensures) _ (c .before .pick .ensures) _ (c .with .ensures) in
     let pre = a .before .before .before .before .pre in
-    (falls-below _ _ _ less (pre .0), (pre .1 .0, pre .1 .1, pre .1 .2, stays-few _ _ less (pre .1 .3)))
+    (falls-below _ _ _ less (pre .0), (pre .1 .0, pre .1 .1, pre .1 .2, pre .1 .3, stays-few _ _ less (pre .1 .4)))
 
 branch-with-requires-2 : (t : ℕ) → branch-lts.Need-with-requires-2 (called t) (branch-at t) branch.Post
 branch-with-requires-2 t c κs = c .before .before .pick .ensures .low
@@ -87,7 +87,7 @@ branch-branch-requires-2 t c κs =
     let a = c .before .before .before .before .before in
     let less = fewer-out _ _ _ _ _ _ _ _ _ _ (a .before .before .before .settle .ensures) _ _ (a .before .union .ensures) (a .difference .ensures) _ (c .before .before .before .pick .ensures) _ (c .with2 .ensures) in
     let pre = a .before .before .before .before .pre in
-    (falls-below _ _ _ less (pre .0), (pre .1 .0, pre .1 .1, pre .1 .2, stays-few _ _ less (pre .1 .3)))
+    (falls-below _ _ _ less (pre .0), (pre .1 .0, pre .1 .1, pre .1 .2, pre .1 .3, stays-few _ _ less (pre .1 .4)))
 
 branch-returns-3 : (t : ℕ) → branch-lts.Need-returns-3 (called t) (branch-at t) branch.Post
 branch-returns-3 t c =
@@ -96,7 +96,7 @@ branch-returns-3 t c =
     _ _ _ _ _ _ _ (a .before .before .if1 .left) (c .before .before .before .with .ensures) (c .before .with2 .ensures) (c .before .before .branch .ensures) (c .branch2 .ensures)
 
 branch-add-result : (t : ℕ) → branch-lts.Need-add-result (called t) (branch-at t) branch.Post
-branch-add-result t c = omega (arith, few _ _ (c .before .before .before .before .before .before .before .before .before .before .pre .1 .3) (branch-returns-3 t c .small))
+branch-add-result t c = omega (arith, few _ _ (c .before .before .before .before .before .before .before .before .before .before .pre .1 .4) (branch-returns-3 t c .small))
 
 pub +branch-spec : {M : Type 1} → statement M
 +branch-spec = close μ-branch λ t. branch-lts.spec (called t)
