@@ -17,8 +17,8 @@ use Rattle.components.specs.Table.{sheetQuestions}
 use Rattle.components.specs.Analysed.{Analysed}
 use Rattle.components.specs.declared.Analysis.{Analysis}
 use Rattle.masks.specs.Negated.{negatedAtoms}
-use Rattle.masks.specs.Tallied.{Tallied}
-use Rattle.masks.specs.declared.Tally.{Tally}
+use Rattle.masks.specs.SheetCounted.{SheetCounted}
+use Rattle.masks.specs.declared.Found.{Found}
 use Rattle.core.specs.Outcome.{refused, answered, outcome, code, countOf, verdictOf}
 use Rattle.core.specs.Operations.{countQuestions, countValues}
 use Rattle.core.specs.declared.Verdict as declared
@@ -56,7 +56,7 @@ module _ (L : Limits) (s : List ℕ) (r : Analysis) (A : Analysed L s r) where
         let y = K .records in
         (walk-accepted L s r A z, omega arith, omega arith)
 
-    module _ (t : Tally) (T : Tallied s (r .atoms) (r .records) t) where
+    module _ (t : Found) (T : SheetCounted s (r .atoms) (r .records) t) where
       same : programOf (r .atoms) (recordsFrom (r .records) s 5) ≡ program s
       same = program-read L s r (A .accepted z)
 

@@ -1,29 +1,30 @@
 -- Laws of the search, one for each way out.
 use mathlib.Core.Bool.{Bool, true, false, not, _&&_, _||_}
-use mathlib.Core.List.{List, [], _∷_, map, List·Memᴰ, List·Memᴰ·head, List·Memᴰ·tail, List·Memᴰ·not-nil, List·Memᴰ·cases-cons, Pairwise·of-cons}
+use mathlib.Core.List.{List, List·Memᴰ}
 use mathlib.Core.Logic.{_⊎_, inl, inr, ⊎-elim}
 use mathlib.Core.Path.{_≡_, refl, sym, _∙_, ap, subst, fun-ext}
-use Prim.Native.Nat.{ℕ, suc, _+_, _-_, _^_, _≤_, _<_}
-use native.Mathlib.Nat.{pow-suc}
+use Prim.Native.Nat.{ℕ, suc, _+_, _%_, _^_, _≤_, _<_}
+use native.Mathlib.Nat.{pow-suc, div-eq-of-lt}
 use native.Mathlib.Omega.{arith}
-use borrow.Author.Tests.{eqb-true, eq-eqb, ltb-true, lt-ltb}
+use borrow.Author.Tests.{eqb-true, eqb-false, eq-eqb, ltb-true, ltb-false, lt-ltb}
 use lib.Dec.{eqb, ltb}
-use lib.ListN.{getD}
+use lib.ListN.{length}
 use lib.Pow.{pow-pos, pow-mono}
 use Rattle.lists.specs.Lists.{all, range}
 use Rattle.lists.proofs.Bools.{by-bool, true-false, is-true, is-false, bool-ext, and-intro, and-left, and-right, or-cases, or-left, or-right, not-intro, not-elim}
-use Rattle.lists.proofs.Members.{all-at, all-intro, all-fails, range-in, range-out, range-left, range-over}
-use Rattle.lists.proofs.Nodup.{nodup-head}
+use Rattle.lists.proofs.Members.{all-at, all-intro, all-fails, filter-cong, range-in, range-out}
+use Rattle.lists.proofs.Nodup.{filter-lt, nodup-range}
 use Rattle.asp.specs.Program.{Body, State, outside, holds}
 use Rattle.asp.specs.LeastModel.{Closed, Inside, Least}
-use Rattle.asp.specs.Count.{with}
-use Rattle.asp.specs.Decided.{CountRule, surely, possibly, agrees, countBy}
-use Rattle.asp.proofs.Branching.{fired-out, chosen-more, agree-make, clash-lower, clash-upper, leaf-one, leaf-unlawful, count-split}
-use Rattle.bits.specs.Sets.{has, With, Subset, Both}
-use Rattle.bits.proofs.Digits.{zero-has}
+use Rattle.asp.specs.Count.{with, states}
+use Rattle.asp.specs.Decided.{CountRule, surely, possibly, isSettledBy, agrees, countBy}
+use Rattle.asp.proofs.Counted.{states-within}
+use Rattle.asp.proofs.Branching.{SettledBy, settled-by-out, fired-out, chosen-more, lower-inside, upper-inside, agree-make, clash-lower, clash-upper, leaf-one, leaf-unlawful, count-split}
+use Rattle.bits.specs.Sets.{has, With, Subset, Both, Either, Difference}
+use Rattle.bits.proofs.Digits.{digits-same, inside-le, zero-has}
 use Rattle.counting.specs.Rules.{operator, LeastBy, Lawful}
-use Rattle.bits.specs.Listed.{Low}
-use Rattle.counting.specs.Search.{undecided, asks, Task, Leaf, Lacking, Counted}
+use Rattle.counting.specs.Search.{isOpen, undecided, Task, Leaf, Last, Narrowed, Round, Member, Counted}
+use Rattle.counting.specs.declared.Bounds.{Bounds}
 use Rattle.counting.proofs.Rules.{empty-both}
 
 -- More decided, more rules surely apply.
@@ -42,8 +43,87 @@ surely-possibly i o apart r e =
     and-intro (all-intro (λ a. not (has i a)) neg (λ a m. not-intro (is-false (λ t. true-false (all-at (has o) neg (and-left (all (has o) neg) (not (r .free) || has i h) e) a m) (apart a t)))))
     (⊎-elim (λ q. or-left (not (has o h)) q) (λ q. or-right (not (r .free)) (not-intro (apart h q))) (or-cases (not (r .free)) (has i h) (and-right (all (has o) neg) (not (r .free) || has i h) e)))
 
-module _ (n : ℕ) (rs : List CountRule) (cs : List Body) (heads pos neg gate : List ℕ) (k : ℕ) (cpos cneg : List ℕ) (m : ℕ) (rest : List ℕ) (i o start : ℕ)
-    (T : Task n rs cs heads pos neg gate k cpos cneg m rest i o start) where
+-- What a state that agrees has and lacks.
+agree-at : (n : ℕ) (i o X : State) → agrees n i o X ≡ true → (a : ℕ) → a < n → (i a ≡ true → X a ≡ true) × (o a ≡ true → X a ≡ false)
+unfolding agrees
+agree-at n i o X e a l =
+    let u = all-at (λ a. (not (i a) || X a) && (not (o a) || not (X a))) (range 0 n) e a (range-in 0 n a (omega arith) (omega arith)) in (
+      λ t. ⊎-elim (λ f. absurd (true-false t (not-elim f))) (λ x. x) (or-cases (not (i a)) (X a) (and-left (not (i a) || X a) (not (o a) || not (X a)) u)),
+      λ t. ⊎-elim (λ f. absurd (true-false t (not-elim f))) (λ x. not-elim x) (or-cases (not (o a)) (not (X a)) (and-right (not (i a) || X a) (not (o a) || not (X a)) u)),
+    )
+
+agree-more : (n : ℕ) (i o i′ o′ X : State) → agrees n i o X ≡ true → ((a : ℕ) → i′ a ≡ true → (i a ≡ true) ⊎ (X a ≡ true))
+    → ((a : ℕ) → o′ a ≡ true → (o a ≡ true) ⊎ (X a ≡ false)) → agrees n i′ o′ X ≡ true
+agree-more n i o i′ o′ X g f h =
+    agree-make n i′ o′ X (λ a l t. ⊎-elim (agree-at n i o X g a l .0) (λ x. x) (f a t)) (λ a l t. ⊎-elim (agree-at n i o X g a l .1) (λ x. x) (h a t))
+
+module _ (n : ℕ) (rs : List CountRule) (cs : List Body) (heads pos neg gate : List ℕ) (k : ℕ) (cpos cneg : List ℕ) (m x i o start : ℕ)
+    (T : Task n rs cs heads pos neg gate k cpos cneg m x i o start) where
+  -- More is decided.
+  more : (i′ o′ l : ℕ) → Inside (has i) (has i′) → Inside (has o) (has o′) → ((a : ℕ) → has i′ a ≡ true → a < n) → ((a : ℕ) → has i′ a ≡ true → has o′ a ≡ false)
+      → ((Y : State) → Closed (operator true i o rs) Y → Inside (has l) Y) → Task n rs cs heads pos neg gate k cpos cneg m x i′ o′ l
+  more i′ o′ l p q low apart below =
+      record {
+        held = T .held;
+        bodies = T .bodies;
+        heads-low = T .heads-low;
+        negs-low = T .negs-low;
+        known = T .known;
+        low = T .low;
+        ins-low = low;
+        apart = apart;
+        below = λ Y c. below Y (λ a e. c a (chosen-more (surely (has i) (has o)) (surely (has i′) (has o′)) rs (λ r _. surely-more i o i′ o′ p q r) Y a e));
+      }
+
+  -- It follows from what was decided.
+  same-count : (i′ o′ : ℕ) → Inside (has i) (has i′) → Inside (has o) (has o′)
+      → ((X : State) → SettledBy n rs (T .heads-low) cs X → agrees n (has i) (has o) X ≡ true
+      → ((a : ℕ) → has i′ a ≡ true → (has i a ≡ true) ⊎ (X a ≡ true)) × ((a : ℕ) → has o′ a ≡ true → (has o a ≡ true) ⊎ (X a ≡ false)))
+      → countBy n rs cs (has i) (has o) ≡ countBy n rs cs (has i′) (has o′)
+  unfolding countBy
+  same-count i′ o′ p q f =
+      ap length (filter-cong (λ X. isSettledBy n rs cs X && agrees n (has i) (has o) X) (λ X. isSettledBy n rs cs X && agrees n (has i′) (has o′) X) (states n) (λ X w.
+      bool-ext
+      (λ e. let s = and-left (isSettledBy n rs cs X) (agrees n (has i) (has o) X) e in
+      let g = and-right (isSettledBy n rs cs X) (agrees n (has i) (has o) X) e in
+      let u = f X (settled-by-out n rs (T .heads-low) cs X (states-within n X w) s) g in
+      and-intro s (agree-more n (has i) (has o) (has i′) (has o′) X g (u .0) (u .1)))
+      (λ e. and-intro (and-left (isSettledBy n rs cs X) (agrees n (has i′) (has o′) X) e)
+      (agree-more n (has i′) (has o′) (has i) (has o) X (and-right (isSettledBy n rs cs X) (agrees n (has i′) (has o′) X) e) (λ a t. inl (p a t)) (λ a t. inl (q a t))))))
+
+  -- An upper bound lacks what is in.
+  lacks : (u : ℕ) → Least (operator false i o rs) (has u) → Subset i u false → countBy n rs cs (has i) (has o) ≡ 0
+  lacks u upper S =
+      by-bool (all (λ a. not (has i a) || has u a) (range 0 n))
+      (λ t. absurd (true-false (S .all-inside (λ a x. let h = T .ins-low a x in
+      ⊎-elim (λ q. absurd (true-false x (not-elim q))) (λ q. q) (or-cases (not (has i a)) (has u a) (all-at (λ a. not (has i a) || has u a) (range 0 n) t a (range-in 0 n a (omega arith) (omega arith)))))) refl))
+      (λ g. let w = all-fails (λ a. not (has i a) || has u a) (range 0 n) g in
+      let h = range-out 0 n (w .0) (w .1) in
+      clash-upper n rs (T .heads-low) (T .negs-low) cs (has i) (has o) (has u) upper (w .0) (omega (arith, h .high))
+      (is-true (λ q. true-false (or-left (has u (w .0)) (not-intro q)) (w .2))) (is-false (λ q. true-false (or-right (not (has i (w .0))) q) (w .2))))
+
+  -- The upper bound.
+  upper : (u : ℕ) → LeastBy heads pos neg gate k false i o start u → Least (operator false i o rs) (has u)
+  upper u C = C .least rs (T .held) (λ Y c. T .below Y (λ a e. c a (chosen-more (surely (has i) (has o)) (possibly (has i) (has o)) rs (λ r _. surely-possibly i o (T .apart) r) Y a e)))
+
+  -- What the upper bound lacks is out.
+  module _ (u : ℕ) (C : LeastBy heads pos neg gate k false i o start u) (S : Subset i u true) (z outs : ℕ) (Z : Difference x u z) (E : Either o z outs) where
+    outs-cases : (a : ℕ) → has outs a ≡ true → (has o a ≡ true) ⊎ (has u a ≡ false)
+    outs-cases a t = ⊎-elim inl (λ q. inr (not-elim (and-right (has x a) (not (has u a)) (sym (Z .members a) ∙ q)))) (or-cases (has o a) (has z a) (sym (E .members a) ∙ t))
+
+    outs-more : Inside (has o) (has outs)
+    outs-more a t = E .members a ∙ or-left (has z a) t
+
+    cut : Task n rs cs heads pos neg gate k cpos cneg m x i outs start
+    cut =
+        more i outs start (λ a t. t) outs-more (T .ins-low)
+        (λ a t. is-false (λ q. ⊎-elim (λ p. true-false p (T .apart a t)) (λ f. true-false (S .inside refl a t) f) (outs-cases a q))) (T .below)
+
+    cut-count : countBy n rs cs (has i) (has o) ≡ countBy n rs cs (has i) (has outs)
+    cut-count =
+        same-count i outs (λ a t. t) outs-more (λ X F g.
+        (λ a t. inl t, λ a t. ⊎-elim inl (λ f. inr (is-false (λ q. true-false (upper-inside n rs (T .heads-low) (T .negs-low) cs (has i) (has o) (has u) X (upper u C) F g a q) f))) (outs-cases a t)))
+
   module _ (l : ℕ) (B : LeastBy heads pos neg gate k true i o start l) where
     lower : Least (operator true i o rs) (has l)
     lower = B .least rs (T .held) (T .below)
@@ -65,25 +145,27 @@ module _ (n : ℕ) (rs : List CountRule) (cs : List Body) (heads pos neg gate : 
         clash-lower n rs (T .heads-low) (T .negs-low) cs (has i) (has o) (has l) lower (w .0) (omega (arith, h .high))
         (and-left (has l (w .0)) (has o (w .0)) both) (and-right (has l (w .0)) (has o (w .0)) both))
 
-    -- An upper bound lacks what is in.
-    lacks : (u : ℕ) → Least (operator false i o rs) (has u) → Subset i u false → countBy n rs cs (has i) (has o) ≡ 0
-    lacks u upper S =
-        by-bool (all (λ a. not (has i a) || has u a) (range 0 n))
-        (λ t. absurd (true-false (S .all-inside (λ a x. let h = T .ins-low a x in
-        ⊎-elim (λ q. absurd (true-false x (not-elim q))) (λ q. q) (or-cases (not (has i a)) (has u a) (all-at (λ a. not (has i a) || has u a) (range 0 n) t a (range-in 0 n a (omega arith) (omega arith)))))) refl))
-        (λ g. let w = all-fails (λ a. not (has i a) || has u a) (range 0 n) g in
-        let h = range-out 0 n (w .0) (w .1) in
-        clash-upper n rs (T .heads-low) (T .negs-low) cs (has i) (has o) (has u) upper (w .0) (omega (arith, h .high))
-        (is-true (λ q. true-false (or-left (has u (w .0)) (not-intro q)) (w .2))) (is-false (λ q. true-false (or-right (not (has i (w .0))) q) (w .2))))
+    -- The atoms of the lower bound are in.
+    module _ (r : ℕ) (W : Both l o r) (none : r ≡ 0) (y ins : ℕ) (Y : Both l x y) (E : Either i y ins) where
+      ins-cases : (a : ℕ) → has ins a ≡ true → (has i a ≡ true) ⊎ ((has l a ≡ true) × (has x a ≡ true))
+      ins-cases a t =
+          ⊎-elim inl (λ q. let e = sym (Y .members a) ∙ q in inr (and-left (has l a) (has x a) e, and-right (has l a) (has x a) e)) (or-cases (has i a) (has y a) (sym (E .members a) ∙ t))
 
-    upper : (u : ℕ) → LeastBy heads pos neg gate k false i o l u → Least (operator false i o rs) (has u)
-    upper u C = C .least rs (T .held) (λ Y c. lower .least Y (λ a e. c a (chosen-more (surely (has i) (has o)) (possibly (has i) (has o)) rs (λ r _. surely-possibly i o (T .apart) r) Y a e)))
+      ins-more : Inside (has i) (has ins)
+      ins-more a t = E .members a ∙ or-left (has y a) t
+
+      joined : Task n rs cs heads pos neg gate k cpos cneg m x ins o l
+      joined =
+          more ins o l ins-more (λ a t. t) (λ a t. ⊎-elim (T .ins-low a) (λ q. T .low a (q .1)) (ins-cases a t))
+          (λ a t. ⊎-elim (T .apart a) (λ q. is-false (λ p. true-false (W .members a ∙ and-intro (q .0) p) (ap (λ z. has z a) none ∙ zero-has a))) (ins-cases a t)) (lower .least)
+
+      joined-count : countBy n rs cs (has i) (has o) ≡ countBy n rs cs (has ins) (has o)
+      joined-count =
+          same-count ins o ins-more (λ a t. t) (λ X F g.
+          (λ a t. ⊎-elim inl (λ q. inr (lower-inside n rs (T .heads-low) (T .negs-low) cs (has i) (has o) (has l) X lower F g a (q .0))) (ins-cases a t), λ a t. inl t))
 
     -- Everything is decided: the bounds are one set.
-    module _ (none : rest ≡ []) where
-      settle : (q : CountRule) → List·Memᴰ q rs → (a : ℕ) → asks q a → (has i a ≡ true) ⊎ (has o a ≡ true)
-      settle q s a x = ⊎-elim inl (λ y. ⊎-elim inr (λ z. absurd (List·Memᴰ·not-nil (subst (List·Memᴰ a) none z))) y) (T .known q s a x)
-
+    module _ (settle : (a : ℕ) → has x a ≡ true → (has i a || has o a) ≡ true) where
       decided : (q : CountRule) → List·Memᴰ q rs → possibly (has i) (has o) q ≡ true → surely (has i) (has o) q ≡ true
       unfolding outside
       decided q s e =
@@ -91,9 +173,9 @@ module _ (n : ℕ) (rs : List CountRule) (cs : List Body) (heads pos neg gate : 
           let h = q .rule .head in
           let p = and-left (all (λ a. not (has i a)) ns) (not (q .free) || not (has o h)) e in
           let g = and-right (all (λ a. not (has i a)) ns) (not (q .free) || not (has o h)) e in
-          and-intro (all-intro (has o) ns (λ a x. ⊎-elim (λ y. absurd (true-false y (not-elim (all-at (λ a. not (has i a)) ns p a x)))) (λ y. y) (settle q s a (inl x))))
+          and-intro (all-intro (has o) ns (λ a x. ⊎-elim (λ y. absurd (true-false y (not-elim (all-at (λ a. not (has i a)) ns p a x)))) (λ y. y) (or-cases (has i a) (has o a) (settle a (T .known q s a (inl x))))))
           (by-bool (q .free) (λ f. ⊎-elim (λ y. or-right (not (q .free)) y)
-          (λ y. absurd (⊎-elim (λ v. true-false f (not-elim v)) (λ v. true-false y (not-elim v)) (or-cases (not (q .free)) (not (has o h)) g))) (settle q s h (inr (f, refl))))
+          (λ y. absurd (⊎-elim (λ v. true-false f (not-elim v)) (λ v. true-false y (not-elim v)) (or-cases (not (q .free)) (not (has o h)) g))) (or-cases (has i h) (has o h) (settle h (T .known q s h (inr (f, refl))))))
           (λ f. or-left (has i h) (not-intro f)))
 
       both : Least (operator false i o rs) (has l)
@@ -147,55 +229,6 @@ module _ (x c y : ℕ) (W : With x c y) where
   with-cases : (a : ℕ) → has y a ≡ true → (a ≡ c) ⊎ (has x a ≡ true)
   with-cases a e = ⊎-elim (λ q. inl (eqb-true a c q)) inr (or-cases (eqb a c) (has x a) (sym (W .members a) ∙ e))
 
-module _ (n : ℕ) (rs : List CountRule) (cs : List Body) (heads pos neg gate : List ℕ) (k : ℕ) (cpos cneg : List ℕ) (m c : ℕ) (rest : List ℕ) (i o start l : ℕ)
-    (T : Task n rs cs heads pos neg gate k cpos cneg m (c ∷ rest) i o start) (B : LeastBy heads pos neg gate k true i o start l) where
-  own : (c < n) × (has i c ≡ false) × (has o c ≡ false)
-  own = T .fresh c (List·Memᴰ·head refl)
-
-  still : (i′ o′ : ℕ) → Inside (has i) (has i′) → Inside (has o) (has o′) → (Y : State) → Closed (operator true i′ o′ rs) Y → Inside (has l) Y
-  still i′ o′ f g Y d =
-      B .least rs (T .held) (T .below) .least Y (λ a e. d a (chosen-more (surely (has i) (has o)) (surely (has i′) (has o′)) rs (λ r _. surely-more i o i′ o′ f g r) Y a e))
-
-  other : (a : ℕ) → List·Memᴰ a rest → a ≡ c → ⊥
-  other a s e = nodup-head (T .distinct) (subst (λ b. List·Memᴰ b rest) e s)
-
-  task-in : (i′ : ℕ) → With i c i′ → Task n rs cs heads pos neg gate k cpos cneg m rest i′ o l
-  task-in i′ W =
-      record {
-        held = T .held;
-        bodies = T .bodies;
-        heads-low = T .heads-low;
-        negs-low = T .negs-low;
-        ins-low = λ a e. ⊎-elim (λ q. subst (λ b. b < n) (sym q) (own .0)) (T .ins-low a) (with-cases i c i′ W a e);
-        apart = λ a e. ⊎-elim (λ q. ap (has o) q ∙ own .2) (T .apart a) (with-cases i c i′ W a e);
-        fresh = λ a s. let f = T .fresh a (List·Memᴰ·tail s) in (f .0, is-false (λ e. ⊎-elim (other a s) (λ x. true-false x (f .1)) (with-cases i c i′ W a e)), f .2);
-        distinct = Pairwise·of-cons (T .distinct);
-        known = λ r s a x. ⊎-elim (λ y. inl (with-kept i c i′ W a y))
-            (λ y. ⊎-elim (λ z. inr (inl z)) (λ z. ⊎-elim (λ q. inl (ap (has i′) q ∙ with-own i c i′ W)) (λ w. inr (inr w)) (List·Memᴰ·cases-cons z)) y) (T .known r s a x);
-        below = still i′ o (with-kept i c i′ W) (λ a e. e);
-      }
-
-  task-out : (o′ : ℕ) → With o c o′ → Task n rs cs heads pos neg gate k cpos cneg m rest i o′ l
-  task-out o′ W =
-      record {
-        held = T .held;
-        bodies = T .bodies;
-        heads-low = T .heads-low;
-        negs-low = T .negs-low;
-        ins-low = T .ins-low;
-        apart = λ a e. is-false (λ x. ⊎-elim (λ q. true-false e (ap (has i) q ∙ own .1)) (λ y. true-false y (T .apart a e)) (with-cases o c o′ W a x));
-        fresh = λ a s. let f = T .fresh a (List·Memᴰ·tail s) in (f .0, f .1, is-false (λ e. ⊎-elim (other a s) (λ x. true-false x (f .2)) (with-cases o c o′ W a e)));
-        distinct = Pairwise·of-cons (T .distinct);
-        known = λ r s a x. ⊎-elim inl
-            (λ y. ⊎-elim (λ z. inr (inl (with-kept o c o′ W a z))) (λ z. ⊎-elim (λ q. inr (inl (ap (has o′) q ∙ with-own o c o′ W))) (λ w. inr (inr w)) (List·Memᴰ·cases-cons z)) y) (T .known r s a x);
-        below = still i o′ (λ a e. e) (with-kept o c o′ W);
-      }
-
-  sum : (i′ o′ v w : ℕ) → With i c i′ → With o c o′ → v ≡ countBy n rs cs (has i′) (has o) → w ≡ countBy n rs cs (has i) (has o′) → v + w ≡ countBy n rs cs (has i) (has o)
-  sum i′ o′ v w I O e f =
-      ap (λ z. z + w) (e ∙ ap (λ X. countBy n rs cs X (has o)) (with-state i c i′ I))
-      ∙ (ap (λ z. countBy n rs cs (with c (has i)) (has o) + z) (f ∙ ap (countBy n rs cs (has i)) (with-state o c o′ O)) ∙ sym (count-split n rs cs (has i) (has o) c (own .0)))
-
 -- The leaf's code.
 module _ (cpos cneg : List ℕ) (m i l : ℕ) where
   pub leaf-lacks : (b : Bool) → Subset i l b → b ≡ false → Leaf cpos cneg m i l 0
@@ -213,56 +246,238 @@ module _ (cpos cneg : List ℕ) (m i l : ℕ) where
       (λ t. by-bool (K .obeys) (λ d. let e : v ≡ 1 = K .is ∙ rw (t, d) refl in omega arith) (λ d. let e : v ≡ 0 = K .is ∙ rw (t, d) refl in omega arith))
       (λ f. let e : v ≡ 0 = K .is ∙ rw f refl in omega arith)
 
--- The upper bound's code.
-module _ (heads pos neg gate : List ℕ) (k i o l : ℕ) where
-  pub lacking-asked : (u : ℕ) (b : Bool) → LeastBy heads pos neg gate k false i o l u → Subset i u b → Lacking heads pos neg gate k i o l (not b)
-  lacking-asked u b C S = record { upper = λ t. (u, C, subst (Subset i u) (not-elim t) S) }
+-- With everything decided.
+module _ (heads pos neg gate : List ℕ) (k : ℕ) (cpos cneg : List ℕ) (m i o start l : ℕ) (B : LeastBy heads pos neg gate k true i o start l) where
+  pub last-met : (r : ℕ) → r < 2 ^ 64 → Both l o r → (r ≡ 0 → ⊥) → Last heads pos neg gate k cpos cneg m i o start 0
+  last-met r s W ne = record { is = λ n rs cs x T _. sym (met n rs cs heads pos neg gate k cpos cneg m x i o start T l B r s W ne); small = omega arith }
 
-  pub lacking-not : Lacking heads pos neg gate k i o l false
-  lacking-not = record { upper = λ t. absurd (true-false t refl) }
+  pub last-leaf : (r v : ℕ) → r < 2 ^ 64 → Both l o r → r ≡ 0 → Leaf cpos cneg m i l v → Last heads pos neg gate k cpos cneg m i o start v
+  last-leaf r v s W z K = record { is = λ n rs cs x T d. candidate n rs cs heads pos neg gate k cpos cneg m x i o start T l B d r s W z v K; small = leaf-small cpos cneg m i l v K }
+
+-- One round of narrowing.
+module _ (heads pos neg gate : List ℕ) (k x i o start l : ℕ) (B : LeastBy heads pos neg gate k true i o start l) (low : o < 2 ^ 64) where
+  pub round-met : (r : ℕ) → r < 2 ^ 64 → Both l o r → (r ≡ 0 → ⊥) → Round heads pos neg gate k x i o start (record { i = i; o = o; l = l; clash = true })
+  round-met r s W ne =
+      record {
+        narrowed = record {
+          is = λ n rs cs cpos cneg m T. record {
+            none = λ _. met n rs cs heads pos neg gate k cpos cneg m x i o start T l B r s W ne;
+            same = λ e. absurd (true-false refl e);
+            task = λ e. absurd (true-false refl e);
+          };
+          ins = λ a t. t;
+          outs = λ a t. t;
+        };
+        grows = omega arith;
+        fits = low;
+        stops = λ _. refl;
+      }
+
+  pub round-still : Round heads pos neg gate k x i o start (record { i = i; o = o; l = l; clash = false })
+  round-still =
+      record {
+        narrowed = record {
+          is = λ n rs cs cpos cneg m T. record {
+            none = λ e. absurd (true-false e refl);
+            same = λ _. refl;
+            task = λ _. more n rs cs heads pos neg gate k cpos cneg m x i o start T i o l (λ a t. t) (λ a t. t) (T .ins-low) (T .apart) (lower n rs cs heads pos neg gate k cpos cneg m x i o start T l B .least);
+          };
+          ins = λ a t. t;
+          outs = λ a t. t;
+        };
+        grows = omega arith;
+        fits = low;
+        stops = λ _. refl;
+      }
+
+  module _ (r : ℕ) (W : Both l o r) (none : r ≡ 0) (y ins : ℕ) (Y : Both l x y) (E : Either i y ins) (u : ℕ) (C : LeastBy heads pos neg gate k false ins o l u) (b : Bool) (S : Subset ins u b) where
+    pub round-lacks : b ≡ false → Round heads pos neg gate k x i o start (record { i = i; o = o; l = l; clash = true })
+    round-lacks f =
+        record {
+          narrowed = record {
+            is = λ n rs cs cpos cneg m T.
+                let J = joined n rs cs heads pos neg gate k cpos cneg m x i o start T l B r W none y ins Y E in
+                record {
+                  none = λ _. joined-count n rs cs heads pos neg gate k cpos cneg m x i o start T l B r W none y ins Y E
+                      ∙ lacks n rs cs heads pos neg gate k cpos cneg m x ins o l J u (upper n rs cs heads pos neg gate k cpos cneg m x ins o l J u C) (subst (Subset ins u) f S);
+                  same = λ e. absurd (true-false refl e);
+                  task = λ e. absurd (true-false refl e);
+                };
+            ins = λ a t. t;
+            outs = λ a t. t;
+          };
+          grows = omega arith;
+          fits = low;
+          stops = λ _. refl;
+        }
+
+    pub round-goes : (z outs : ℕ) → b ≡ true → Difference x u z → Either o z outs → outs < 2 ^ 64 → Round heads pos neg gate k x i o start (record { i = ins; o = outs; l = l; clash = false })
+    round-goes z outs t Z D high =
+        record {
+          narrowed = record {
+            is = λ n rs cs cpos cneg m T.
+                let J = joined n rs cs heads pos neg gate k cpos cneg m x i o start T l B r W none y ins Y E in
+                let S′ = subst (Subset ins u) t S in
+                record {
+                  none = λ e. absurd (true-false e refl);
+                  same = λ _. joined-count n rs cs heads pos neg gate k cpos cneg m x i o start T l B r W none y ins Y E
+                      ∙ cut-count n rs cs heads pos neg gate k cpos cneg m x ins o l J u C S′ z outs Z D;
+                  task = λ _. cut n rs cs heads pos neg gate k cpos cneg m x ins o l J u C S′ z outs Z D;
+                };
+            ins = λ a s. E .members a ∙ or-left (has y a) s;
+            outs = λ a s. D .members a ∙ or-left (has z a) s;
+          };
+          grows = inside-le 64 o outs low high (λ a s. D .members a ∙ or-left (has z a) s);
+          fits = high;
+          stops = λ e. absurd (true-false e refl);
+        }
+
+-- Rounds, the last from atoms out.
+pub record Settling (heads pos neg gate : List ℕ) (k x i o start seen : ℕ) (B : Bounds) : Type 0 where
+  pub done : Narrowed heads pos neg gate k x i o start B
+  pub grows : seen ≤ B .o
+  pub fits : B .o < 2 ^ 64
+  pub stops : B .clash ≡ true → B .o ≡ seen
+
+module _ (heads pos neg gate : List ℕ) (k x i o start : ℕ) where
+  pub settling-start : (B : Bounds) → Round heads pos neg gate k x i o start B → Settling heads pos neg gate k x i o start o B
+  settling-start B R = record { done = R .narrowed; grows = R .grows; fits = R .fits; stops = R .stops }
+
+  pub settling-turn : (seen : ℕ) (B C : Bounds) → Settling heads pos neg gate k x i o start seen B → (B .o ≡ seen → ⊥) → Round heads pos neg gate k x (B .i) (B .o) (B .l) C
+      → Settling heads pos neg gate k x i o start (B .o) C
+  settling-turn seen B C A ne R =
+      let f : B .clash ≡ false = is-false (λ t. ne (A .stops t)) in
+      record {
+        done = record {
+          is = λ n rs cs cpos cneg m T.
+              let U = A .done .is n rs cs cpos cneg m T in
+              let V₁ = R .narrowed .is n rs cs cpos cneg m (U .task f) in
+              record { none = λ e. U .same f ∙ V₁ .none e; same = λ e. U .same f ∙ V₁ .same e; task = V₁ .task };
+          ins = λ a t. R .narrowed .ins a (A .done .ins a t);
+          outs = λ a t. R .narrowed .outs a (A .done .outs a t);
+        };
+        grows = R .grows;
+        fits = R .fits;
+        stops = R .stops;
+      }
+
+  pub settling-end : (seen : ℕ) (B : Bounds) → Settling heads pos neg gate k x i o start seen B → Narrowed heads pos neg gate k x i o start B
+  settling-end seen B A = A .done
+
+-- Fewer atoms are undecided.
+fewer : (x i o i′ o′ c : ℕ) → Inside (has i) (has i′) → Inside (has o) (has o′) → c < 64 → isOpen x i o c ≡ true → (has i′ c || has o′ c) ≡ true → undecided x i′ o′ < undecided x i o
+unfolding undecided
+fewer x i o i′ o′ c p q l t d =
+    filter-lt (isOpen x i′ o′) (isOpen x i o) (range 0 64) (nodup-range 0 64)
+    (λ a _ e. open-more a e) c (range-in 0 64 c (omega arith) (omega arith))
+    (is-false (λ e. true-false d (not-elim (and-right (has x c) (not (has i′ c || has o′ c)) e)))) t
+  where
+    open-more : (a : ℕ) → isOpen x i′ o′ a ≡ true → isOpen x i o a ≡ true
+    open-more a e =
+        and-intro (and-left (has x a) (not (has i′ a || has o′ a)) e)
+        (not-intro (is-false (λ s. true-false (⊎-elim (λ v. or-left (has o′ a) (p a v)) (λ v. or-right (has i′ a) (q a v)) (or-cases (has i a) (has o a) s)) (not-elim (and-right (has x a) (not (has i′ a || has o′ a)) e)))))
 
 -- The ways out of the search.
-module _ (heads pos neg gate : List ℕ) (k : ℕ) (cpos cneg : List ℕ) (m : ℕ) (atoms : List ℕ) (t at i o start l : ℕ) (B : LeastBy heads pos neg gate k true i o start l) where
-  pub found-met : (r : ℕ) → r < 2 ^ 64 → Both l o r → (r ≡ 0 → ⊥) → Counted heads pos neg gate k cpos cneg m atoms t at i o start 0
-  found-met r s W ne = record { is = λ n rs cs T. sym (met n rs cs heads pos neg gate k cpos cneg m _ i o start T l B r s W ne); small = omega arith }
+module _ (heads pos neg gate : List ℕ) (k x i o start : ℕ) (B : Bounds) (N : Narrowed heads pos neg gate k x i o start B) where
+  pub found-none : (cpos cneg : List ℕ) (m : ℕ) → B .clash ≡ true → Counted heads pos neg gate k cpos cneg m x i o start 0
+  found-none cpos cneg m t = record { is = λ n rs cs T. sym (N .is n rs cs cpos cneg m T .none t); small = omega arith }
 
-  pub found-lacks : (b : Bool) → Lacking heads pos neg gate k i o l b → b ≡ true → Counted heads pos neg gate k cpos cneg m atoms t at i o start 0
-  found-lacks b K e =
-      record {
-        is = λ n rs cs T. let w = K .upper e in
-            sym (lacks n rs cs heads pos neg gate k cpos cneg m _ i o start T l B (w .0) (upper n rs cs heads pos neg gate k cpos cneg m _ i o start T l B (w .0) (w .1)) (w .2));
-        small = omega arith;
-      }
+  module _ (e d : ℕ) (E : Either (B .i) (B .o) e) (D : Difference x e d) where
+    open-here : (a : ℕ) → has d a ≡ isOpen x (B .i) (B .o) a
+    open-here a = D .members a ∙ ap (λ (b : Bool). has x a && not b) (E .members a)
 
-  pub found-leaf : (r v : ℕ) → r < 2 ^ 64 → Both l o r → r ≡ 0 → t ≤ at → Leaf cpos cneg m i l v → Counted heads pos neg gate k cpos cneg m atoms t at i o start v
-  found-leaf r v s W z over K =
-      record {
-        is = λ n rs cs T. candidate n rs cs heads pos neg gate k cpos cneg m _ i o start T l B (ap (map (λ j. getD atoms j 0)) (range-over at t over)) r s W z v K;
-        small = let p = pow-pos (t - at) in let q = leaf-small cpos cneg m i l v K in omega arith;
-      }
+    pub found-last : (cpos cneg : List ℕ) (m v : ℕ) → B .clash ≡ false → d ≡ 0 → Last heads pos neg gate k cpos cneg m (B .i) (B .o) (B .l) v → Counted heads pos neg gate k cpos cneg m x i o start v
+    found-last cpos cneg m v f z K =
+        record {
+          is = λ n rs cs T. let U = N .is n rs cs cpos cneg m T in
+              K .is n rs cs x (U .task f) (λ a t. is-true (λ q. true-false (open-here a ∙ and-intro t (not-intro q)) (ap (λ z. has z a) z ∙ zero-has a))) ∙ sym (U .same f);
+          small = let p = pow-pos (undecided x i o) in let q = K .small in omega arith;
+        }
 
-  pub found-sum : (c i′ o′ v w : ℕ) → at < t → c ≡ getD atoms at 0 → With i c i′ → With o c o′
-      → Counted heads pos neg gate k cpos cneg m atoms t (at + 1) i′ o l v → Counted heads pos neg gate k cpos cneg m atoms t (at + 1) i o′ l w
-      → Counted heads pos neg gate k cpos cneg m atoms t at i o start (v + w)
-  found-sum c i′ o′ v w lt e I O V₁ V₂ =
-      let next : undecided atoms at t ≡ c ∷ undecided atoms (at + 1) t = ap (map (λ j. getD atoms j 0)) (range-left at t lt) ∙ ap (λ x. x ∷ undecided atoms (at + 1) t) (sym e) in
-      record {
-        is = λ n rs cs T.
-            let T′ = subst (λ l. Task n rs cs heads pos neg gate k cpos cneg m l i o start) next T in
-            sum n rs cs heads pos neg gate k cpos cneg m c (undecided atoms (at + 1) t) i o start l T′ B i′ o′ v w I O
-            (V₁ .is n rs cs (task-in n rs cs heads pos neg gate k cpos cneg m c (undecided atoms (at + 1) t) i o start l T′ B i′ I))
-            (V₂ .is n rs cs (task-out n rs cs heads pos neg gate k cpos cneg m c (undecided atoms (at + 1) t) i o start l T′ B o′ O));
-        small =
-            let p = V₁ .small in
-            let q = V₂ .small in
-            let d : t - at ≡ suc (t - (at + 1)) = omega arith in
-            let g = ap (λ x. 2 ^ x) d ∙ pow-suc 2 (t - (at + 1)) in
-            omega arith;
-      }
+    module _ (c : ℕ) (M : Member d c) where
+      here : isOpen x (B .i) (B .o) c ≡ true
+      here = sym (open-here c) ∙ M .inside
+
+      free : (has (B .i) c || has (B .o) c) ≡ false
+      free = not-elim (and-right (has x c) (not (has (B .i) c || has (B .o) c)) here)
+
+      opened : isOpen x i o c ≡ true
+      opened =
+          and-intro (and-left (has x c) (not (has (B .i) c || has (B .o) c)) here)
+          (not-intro (is-false (λ s. true-false (⊎-elim (λ v. or-left (has (B .o) c) (N .ins c v)) (λ v. or-right (has (B .i) c) (N .outs c v)) (or-cases (has i c) (has o c) s)) free)))
+
+      pub fewer-in : (i′ : ℕ) → With (B .i) c i′ → undecided x i′ (B .o) < undecided x i o
+      fewer-in i′ I = fewer x i o i′ (B .o) c (λ a t. with-kept (B .i) c i′ I a (N .ins a t)) (N .outs) (M .low) opened (or-left (has (B .o) c) (with-own (B .i) c i′ I))
+
+      pub fewer-out : (o′ : ℕ) → With (B .o) c o′ → undecided x (B .i) o′ < undecided x i o
+      fewer-out o′ O = fewer x i o (B .i) o′ c (N .ins) (λ a t. with-kept (B .o) c o′ O a (N .outs a t)) (M .low) opened (or-right (has (B .i) c) (with-own (B .o) c o′ O))
+
+      module _ (n : ℕ) (rs : List CountRule) (cs : List Body) (cpos cneg : List ℕ) (m : ℕ) (T : Task n rs cs heads pos neg gate k cpos cneg m x (B .i) (B .o) (B .l)) where
+        own : c < n
+        own = T .low c (and-left (has x c) (not (has (B .i) c || has (B .o) c)) here)
+
+        task-in : (i′ : ℕ) → With (B .i) c i′ → Task n rs cs heads pos neg gate k cpos cneg m x i′ (B .o) (B .l)
+        task-in i′ I =
+            more n rs cs heads pos neg gate k cpos cneg m x (B .i) (B .o) (B .l) T i′ (B .o) (B .l) (with-kept (B .i) c i′ I) (λ a t. t)
+            (λ a t. ⊎-elim (λ q. subst (λ b. b < n) (sym q) own) (T .ins-low a) (with-cases (B .i) c i′ I a t))
+            (λ a t. ⊎-elim (λ q. ap (has (B .o)) q ∙ is-false (λ p. true-false (or-right (has (B .i) c) p) free)) (T .apart a) (with-cases (B .i) c i′ I a t)) (T .below)
+
+        task-out : (o′ : ℕ) → With (B .o) c o′ → Task n rs cs heads pos neg gate k cpos cneg m x (B .i) o′ (B .l)
+        task-out o′ O =
+            more n rs cs heads pos neg gate k cpos cneg m x (B .i) (B .o) (B .l) T (B .i) o′ (B .l) (λ a t. t) (with-kept (B .o) c o′ O) (T .ins-low)
+            (λ a t. is-false (λ p. ⊎-elim (λ q. true-false (or-left (has (B .o) c) (subst (λ b. has (B .i) b ≡ true) q t)) free) (λ q. true-false q (T .apart a t)) (with-cases (B .o) c o′ O a p))) (T .below)
+
+      pub found-sum : (cpos cneg : List ℕ) (m i′ o′ v w : ℕ) → B .clash ≡ false → With (B .i) c i′ → With (B .o) c o′
+          → Counted heads pos neg gate k cpos cneg m x i′ (B .o) (B .l) v → Counted heads pos neg gate k cpos cneg m x (B .i) o′ (B .l) w
+          → Counted heads pos neg gate k cpos cneg m x i o start (v + w)
+      found-sum cpos cneg m i′ o′ v w f I O V₁ V₂ =
+          record {
+            is = λ n rs cs T.
+                let U = N .is n rs cs cpos cneg m T in
+                let T′ = U .task f in
+                ap (λ z. z + w) (V₁ .is n rs cs (task-in n rs cs cpos cneg m T′ i′ I) ∙ ap (λ X. countBy n rs cs X (has (B .o))) (with-state (B .i) c i′ I))
+                ∙ (ap (λ z. countBy n rs cs (with c (has (B .i))) (has (B .o)) + z) (V₂ .is n rs cs (task-out n rs cs cpos cneg m T′ o′ O) ∙ ap (countBy n rs cs (has (B .i))) (with-state (B .o) c o′ O))
+                ∙ (sym (count-split n rs cs (has (B .i)) (has (B .o)) c (own n rs cs cpos cneg m T′)) ∙ sym (U .same f)));
+            small =
+                let p = V₁ .small in
+                let q = V₂ .small in
+                let g = pow-mono {i = suc (undecided x i′ (B .o))} {j = undecided x i o} (fewer-in i′ I) in
+                let h = pow-mono {i = suc (undecided x (B .i) o′)} {j = undecided x i o} (fewer-out o′ O) in
+                let s = pow-suc 2 (undecided x i′ (B .o)) in
+                let t = pow-suc 2 (undecided x (B .i) o′) in
+                omega arith;
+          }
 
 -- What the code of the search asks on the way.
-pub low-here : (atoms : List ℕ) (t at c : ℕ) → Low atoms t → at < t → c ≡ getD atoms at 0 → c < 64
-low-here atoms t at c L l e = subst (λ x. x < 64) (sym e) (L .low at l)
+pub falls-below : (a b t : ℕ) → a < b → b ≡ t → a < t
+falls-below a b t l e = omega arith
 
-pub few : (t at r : ℕ) → t ≤ 16 → r ≤ 2 ^ (t - at) → r ≤ 65536
-few t at r l s = let k = pow-mono {i = t - at} {j = 16} (omega arith) in omega arith
+pub stays-few : (a b : ℕ) → a < b → b ≤ 16 → a ≤ 16
+stays-few a b l h = omega arith
+
+pub few : (t r : ℕ) → t ≤ 16 → r ≤ 2 ^ t → r ≤ 65536
+few t r l s = let k = pow-mono {i = t} {j = 16} l in omega arith
+
+-- The lowest atom.
+pub record Seeking (d a : ℕ) : Type 0 where
+  pub low : a ≤ 64
+  pub passed : (b : ℕ) → b < a → has d b ≡ false
+
+pub seeking-start : (d : ℕ) → Seeking d 0
+seeking-start d = record { low = omega arith; passed = λ b l. absurd (omega arith) }
+
+pub seeking-turn : (d a : ℕ) (b : Bool) → Seeking d a → a < 64 → b ≡ has d a → b ≡ false → Seeking d (a + 1)
+seeking-turn d a b S l e f =
+    record { low = omega arith; passed = λ c k. by-bool (eqb c a) (λ t. ap (has d) (eqb-true c a t) ∙ (sym e ∙ f)) (λ t. S .passed c (let ne = eqb-false c a t in omega arith)) }
+
+pub seeking-found : (d a : ℕ) (b : Bool) → a < 64 → b ≡ has d a → b ≡ true → Member d a
+seeking-found d a b l e t = record { low = l; inside = sym e ∙ t }
+
+pub seeking-end : (d a : ℕ) → Seeking d a → 64 ≤ a → d < 2 ^ 64 → (d ≡ 0 → ⊥) → Member d 0
+seeking-end d a S l s ne =
+    absurd (ne (digits-same 64 d 0 s (omega arith) (λ b. by-bool (ltb b 64)
+    (λ t. let k = ltb-true b 64 t in S .passed b (omega arith) ∙ sym (zero-has b))
+    (λ f. let k = ltb-false b 64 f in let p = pow-mono {i = 64} {j = b} k in ap (λ q. eqb (q % 2) 1) (div-eq-of-lt {n = d} {m = 2 ^ b} (omega arith)) ∙ sym (zero-has b)))))
+
+pub better-here : (d a best : ℕ) (b : Bool) → a < 64 → b ≡ has d a → b ≡ true → Member d best → Member d a
+better-here d a best b l e t _ = seeking-found d a b l e t

@@ -1,9 +1,9 @@
 -- The rules and constraints of a count as masks, in any order, and what the steps of the count promise.
-use mathlib.Core.Bool.{Bool, true, not, _&&_, cond}
+use mathlib.Core.Bool.{Bool, true, false, not, _&&_, cond}
 use mathlib.Core.List.{List, List·Memᴰ}
 use mathlib.Core.Logic.{_⊎_}
 use mathlib.Core.Path.{_≡_}
-use Prim.Native.Nat.{ℕ, _≤_, _<_}
+use Prim.Native.Nat.{ℕ, _+_, _≤_, _<_}
 use lib.Dec.{eqb}
 use lib.ListN.{getD}
 use Rattle.lists.specs.Lists.{all, member}
@@ -52,14 +52,15 @@ pub record FiredAt (heads pos neg gate : List ℕ) (j : ℕ) (sure : Bool) (i o 
   pub asked : Applies sure i o (getD neg j 0) (getD gate j 0) flag
   pub fired : Fired l (getD heads j 0) (getD pos j 0) flag r
 
--- One pass over the rules: nothing is lost, nothing is added that a closed set lacks, and where nothing is added the set is closed.
-pub record Passed (f : State → State) (l r : ℕ) : Type 0 where
-  pub below : (Y : State) → Closed f Y → Inside (has l) Y → Inside (has r) Y
-  pub still : r ≡ l → Closed f (has l)
+-- Where the rule at j adds its head, a pass may go on at back[j]: no rule before has that head among its positive atoms.
+pub record Returning (heads pos back : List ℕ) (k : ℕ) : Type 0 where
+  pub near : (j : ℕ) → j < k → getD back j 0 ≤ j + 1
+  pub lacks : (j : ℕ) → j < k → (j′ : ℕ) → j′ < getD back j 0 → has (getD pos j′ 0) (getD heads j 0) ≡ false
 
-pub record PassedBy (heads pos neg gate : List ℕ) (k : ℕ) (sure : Bool) (i o l r : ℕ) : Type 0 where
-  pub grows : l ≤ r
-  pub passed : (rs : List CountRule) → Held rs heads pos neg gate k → Passed (operator sure i o rs) l r
+-- The index to go on at, behind j if nothing was added.
+pub record Onward (x y back j r : ℕ) : Type 0 where
+  pub same : x ≡ y → r ≡ j + 1
+  pub other : (x ≡ y → ⊥) → r ≡ back
 
 -- The least model, from a set that lies in every closed set.
 pub record LeastBy (heads pos neg gate : List ℕ) (k : ℕ) (sure : Bool) (i o start r : ℕ) : Type 0 where

@@ -1,21 +1,18 @@
 // Counting settled states: least models by passes over masks, and the search over decisions.
+use bits::difference;
+use bits::has;
 use bits::intersection;
+use bits::size;
 use bits::subset;
+use bits::union;
 use bits::wide;
 use bits::with;
 ghost use mathlib.Core.Path.{_≡_};
-ghost use mathlib.Core.List.{List};
-ghost use mathlib.Core.Bool.{Bool, not};
-ghost use Prim.Native.Nat.{ℕ, _+_, _≤_, _<_};
+ghost use Prim.Native.Nat.{_≤_, _<_};
 ghost use lib.ListN.{getD};
-ghost use Rattle.lists.specs.Lists.{all};
-ghost use Rattle.asp.specs.Program.{Body, State, holds};
-ghost use Rattle.asp.specs.LeastModel.{Closed, Inside, Least};
-ghost use Rattle.asp.specs.Decided.{CountRule};
-ghost use Rattle.bits.specs.Sets.{has};
-ghost use Rattle.counting.specs.Rules.{Applies, Fired, FiredAt, PassedBy, LeastBy, BodyHolds, Lawful};
+ghost use Rattle.counting.specs.Rules.{Applies, Fired, FiredAt, Onward, Returning, LeastBy, BodyHolds, Lawful};
 ghost use Rattle.bits.specs.Listed.{Low};
-ghost use Rattle.counting.specs.Search.{Leaf, Lacking, Counted};
+ghost use Rattle.counting.specs.Search.{Leaf, Member, undecided, Last, Narrowed, Round, Counted};
 
 // Does a rule with these negative atoms and this gate apply: surely, or possibly?
 fn applies(sure: bool, i: u64, o: u64, neg: u64, gate: u64) -> bool
@@ -69,7 +66,7 @@ fn fire_at(
 // The index to go on at: behind j, or the one given where the set has grown.
 fn onward(x: u64, y: u64, back: u8, j: usize) -> usize
     requires { ⌜ j < 128 ⌝ }
-    ensures { λ r. ⌜ (x ≡ y → r ≡ j + 1) ⌝ }
+    ensures { λ r. ⌜ Onward x y back j r ⌝ }
 {
     if x != y {
         return wide(back);
@@ -77,33 +74,8 @@ fn onward(x: u64, y: u64, back: u8, j: usize) -> usize
     j + 1
 }
 
-// A pass over the first k rules: where the rule at j adds its head, it goes on at back[j].
-fn pass(
-    heads: &[u8; 128],
-    pos: &[u64; 128],
-    neg: &[u64; 128],
-    gate: &[u64; 128],
-    back: &[u8; 128],
-    k: usize,
-    sure: bool,
-    i: u64,
-    o: u64,
-    l: u64,
-) -> u64
-    requires { ⌜ (k ≤ 128) × Low (now heads) k ⌝ }
-    ensures { λ r. ⌜ PassedBy (now (heads .entry)) (now (pos .entry)) (now (neg .entry)) (now (gate .entry)) k sure i o l r ⌝ }
-{
-    let mut x = l;
-    let mut j = 0;
-    while j < k {
-        let y = fire_at(heads, pos, neg, gate, j, sure, i, o, x);
-        j = onward(x, y, back[j], j);
-        x = y;
-    }
-    x
-}
-
-// Passes until nothing is added: from a set inside the least model, the least model.
+// From a set inside the least model, the least model, by a pass over the rules: where the rule at j adds its head, it goes on at
+// back[j].
 fn least(
     heads: &[u8; 128],
     pos: &[u64; 128],
@@ -116,14 +88,15 @@ fn least(
     o: u64,
     start: u64,
 ) -> u64
-    requires { ⌜ (k ≤ 128) × Low (now heads) k ⌝ }
+    requires { ⌜ (k ≤ 128) × Low (now heads) k × Returning (now heads) (now pos) (now back) k ⌝ }
     ensures { λ r. ⌜ LeastBy (now (heads .entry)) (now (pos .entry)) (now (neg .entry)) (now (gate .entry)) k sure i o start r ⌝ }
 {
     let mut x = start;
-    let mut next = pass(heads, pos, neg, gate, back, k, sure, i, o, x);
-    while next != x {
-        x = next;
-        next = pass(heads, pos, neg, gate, back, k, sure, i, o, x);
+    let mut j = 0;
+    while j < k {
+        let y = fire_at(heads, pos, neg, gate, j, sure, i, o, x);
+        j = onward(x, y, back[j], j);
+        x = y;
     }
     x
 }
@@ -153,7 +126,7 @@ fn lawful(pos: &[u64; 128], neg: &[u64; 128], k: usize, x: u64) -> bool
     true
 }
 
-// With every atom decided the least model is the only candidate: 1 where it has i and breaks none of the m constraints, otherwise 0.
+// 1 where the set has i and breaks none of the m constraints, otherwise 0.
 fn leaf(cpos: &[u64; 128], cneg: &[u64; 128], m: usize, i: u64, l: u64) -> u64
     requires { ⌜ m ≤ 128 ⌝ }
     ensures { λ r. ⌜ Leaf (now (cpos .entry)) (now (cneg .entry)) m i l r ⌝ }
@@ -167,32 +140,249 @@ fn leaf(cpos: &[u64; 128], cneg: &[u64; 128], m: usize, i: u64, l: u64) -> u64
     0
 }
 
-// Does the least model of the rules that possibly apply lack some of i? It is asked only where i has grown.
-fn lacking(
+// With every atom decided the least model is the only candidate: 1 where it is settled, otherwise 0.
+fn last(
     heads: &[u8; 128],
     pos: &[u64; 128],
     neg: &[u64; 128],
     gate: &[u64; 128],
     back: &[u8; 128],
     k: usize,
+    cpos: &[u64; 128],
+    cneg: &[u64; 128],
+    m: usize,
+    i: u64,
+    o: u64,
+    start: u64,
+) -> u64
+    requires { ⌜ (k ≤ 128) × Low (now heads) k × Returning (now heads) (now pos) (now back) k × (m ≤ 128) ⌝ }
+    ensures { λ r. ⌜ Last (now (heads .entry)) (now (pos .entry)) (now (neg .entry)) (now (gate .entry)) k (now (cpos .entry)) (now (cneg .entry)) m i o start r ⌝ }
+{
+    let l = least(heads, pos, neg, gate, back, k, true, i, o, start);
+    if intersection(l, o) != 0 {
+        return 0;
+    }
+    leaf(cpos, cneg, m, i, l)
+}
+
+// Decisions with what follows from them: atoms that are in, atoms that are out, a set that every state that agrees has, and
+// whether no settled state agrees.
+pub struct Bounds {
+    pub i: u64,
+    pub o: u64,
+    pub l: u64,
+    pub clash: bool,
+}
+
+// One round. A settled state that agrees lies between two least models: of the rules that surely apply, and of those that
+// possibly do. So atoms of x in the first are in, and those not in the second are out. The second is asked for where i has grown.
+fn narrow(
+    heads: &[u8; 128],
+    pos: &[u64; 128],
+    neg: &[u64; 128],
+    gate: &[u64; 128],
+    back: &[u8; 128],
+    k: usize,
+    x: u64,
+    i: u64,
+    o: u64,
+    start: u64,
     grown: bool,
+) -> Bounds
+    requires { ⌜ (k ≤ 128) × Low (now heads) k × Returning (now heads) (now pos) (now back) k ⌝ }
+    ensures { λ r. ⌜ Round (now (heads .entry)) (now (pos .entry)) (now (neg .entry)) (now (gate .entry)) k x i o start r ⌝ }
+{
+    let l = least(heads, pos, neg, gate, back, k, true, i, o, start);
+    if intersection(l, o) != 0 {
+        return Bounds {
+            i,
+            o,
+            l,
+            clash: true,
+        };
+    }
+    let ins = union(i, intersection(l, x));
+    if unmoved(i, ins, grown) {
+        return Bounds {
+            i,
+            o,
+            l,
+            clash: false,
+        };
+    }
+    let u = least(heads, pos, neg, gate, back, k, false, ins, o, l);
+    if !subset(ins, u) {
+        return Bounds {
+            i,
+            o,
+            l,
+            clash: true,
+        };
+    }
+    let outs = union(o, difference(x, u));
+    Bounds {
+        i: ins,
+        o: outs,
+        l,
+        clash: false,
+    }
+}
+
+fn unmoved(a: u64, b: u64, grown: bool) -> bool {
+    if grown {
+        return false;
+    }
+    a == b
+}
+
+// Rounds until no further atom is out.
+fn settle(
+    heads: &[u8; 128],
+    pos: &[u64; 128],
+    neg: &[u64; 128],
+    gate: &[u64; 128],
+    back: &[u8; 128],
+    k: usize,
+    x: u64,
+    i: u64,
+    o: u64,
+    start: u64,
+    grown: bool,
+) -> Bounds
+    requires { ⌜ (k ≤ 128) × Low (now heads) k × Returning (now heads) (now pos) (now back) k ⌝ }
+    ensures { λ r. ⌜ Narrowed (now (heads .entry)) (now (pos .entry)) (now (neg .entry)) (now (gate .entry)) k x i o start r ⌝ }
+{
+    let mut seen = o;
+    let mut b = narrow(heads, pos, neg, gate, back, k, x, i, o, start, grown);
+    while b.o != seen {
+        seen = b.o;
+        b = narrow(heads, pos, neg, gate, back, k, x, b.i, b.o, b.l, false);
+    }
+    b
+}
+
+// The lowest atom of a set that is not empty.
+fn lowest(d: u64) -> usize
+    requires { ⌜ (d ≡ 0 → ⊥) ⌝ }
+    ensures { λ r. ⌜ Member d r ⌝ }
+{
+    let mut a = 0;
+    while a < 64 {
+        if has(d, a) {
+            return a;
+        }
+        a += 1;
+    }
+    0
+}
+
+// What it settles to decide an atom, 0 where it is not in d: how many atoms its being out adds to the lower bound or its being
+// in takes from the upper bound u, and more than any number of atoms where one of the two is refuted.
+fn weight(
+    heads: &[u8; 128],
+    pos: &[u64; 128],
+    neg: &[u64; 128],
+    gate: &[u64; 128],
+    back: &[u8; 128],
+    k: usize,
+    d: u64,
     i: u64,
     o: u64,
     l: u64,
-) -> bool
-    requires { ⌜ (k ≤ 128) × Low (now heads) k ⌝ }
-    ensures { λ r. ⌜ Lacking (now (heads .entry)) (now (pos .entry)) (now (neg .entry)) (now (gate .entry)) k i o l r ⌝ }
+    u: u64,
+    a: usize,
+) -> u32
+    requires { ⌜ (k ≤ 128) × Low (now heads) k × Returning (now heads) (now pos) (now back) k × (a < 64) ⌝ }
 {
-    if grown {
-        let u = least(heads, pos, neg, gate, back, k, false, i, o, l);
-        return !subset(i, u);
+    if !has(d, a) {
+        return 0;
     }
-    false
+    let outs = with(o, a);
+    let more = least(heads, pos, neg, gate, back, k, true, i, outs, l);
+    if intersection(more, outs) != 0 {
+        return 65;
+    }
+    let ins = with(i, a);
+    let rest = least(heads, pos, neg, gate, back, k, false, ins, o, l);
+    if !subset(ins, rest) {
+        return 65;
+    }
+    size(union(difference(more, l), difference(u, rest)))
 }
 
-// The number of settled states that have i and nothing of o, where atoms[at..t] are still to be decided. A settled state that
-// agrees lies between two least models: of the rules that surely apply, and of those that possibly do. The second is asked for
-// where the last decision put an atom in.
+fn higher(a: u32, b: u32) -> u32 {
+    if b < a {
+        return a;
+    }
+    b
+}
+
+// The atom a, where it is in d and heavier than best.
+fn better(d: u64, a: usize, w: u32, best: usize, most: u32) -> usize
+    requires { ⌜ a < 64 ⌝ }
+    ensures { λ r. ⌜ (Member d best → Member d r) ⌝ }
+{
+    if has(d, a) {
+        if most < w {
+            return a;
+        }
+        return best;
+    }
+    best
+}
+
+// An atom of d that settles most.
+fn heaviest(
+    heads: &[u8; 128],
+    pos: &[u64; 128],
+    neg: &[u64; 128],
+    gate: &[u64; 128],
+    back: &[u8; 128],
+    k: usize,
+    d: u64,
+    i: u64,
+    o: u64,
+    l: u64,
+) -> usize
+    requires { ⌜ (k ≤ 128) × Low (now heads) k × Returning (now heads) (now pos) (now back) k × (d ≡ 0 → ⊥) ⌝ }
+    ensures { λ r. ⌜ Member d r ⌝ }
+{
+    let u = least(heads, pos, neg, gate, back, k, false, i, o, l);
+    let mut best = lowest(d);
+    let mut most: u32 = 0;
+    let mut a = 0;
+    while a < 64 {
+        let w = weight(heads, pos, neg, gate, back, k, d, i, o, l, u, a);
+        best = better(d, a, w, best, most);
+        most = higher(w, most);
+        a += 1;
+    }
+    best
+}
+
+// The atom of d to decide next. With few left to decide the search is short, and to weigh them would take longer.
+fn pick(
+    heads: &[u8; 128],
+    pos: &[u64; 128],
+    neg: &[u64; 128],
+    gate: &[u64; 128],
+    back: &[u8; 128],
+    k: usize,
+    d: u64,
+    i: u64,
+    o: u64,
+    l: u64,
+) -> usize
+    requires { ⌜ (k ≤ 128) × Low (now heads) k × Returning (now heads) (now pos) (now back) k × (d ≡ 0 → ⊥) ⌝ }
+    ensures { λ r. ⌜ Member d r ⌝ }
+{
+    if size(d) <= 8 {
+        return lowest(d);
+    }
+    heaviest(heads, pos, neg, gate, back, k, d, i, o, l)
+}
+
+// The number of settled states that have i and nothing of o, where the atoms of x are to be decided.
 pub fn branch(
     heads: &[u8; 128],
     pos: &[u64; 128],
@@ -203,29 +393,27 @@ pub fn branch(
     cpos: &[u64; 128],
     cneg: &[u64; 128],
     m: usize,
-    atoms: &[u8; 16],
-    t: usize,
-    at: usize,
+    x: u64,
     i: u64,
     o: u64,
     start: u64,
     grown: bool,
 ) -> u64
-    requires { ⌜ (k ≤ 128) × Low (now heads) k × (m ≤ 128) × (t ≤ 16) × Low (now atoms) t ⌝ }
-    ensures { λ r. ⌜ Counted (now (heads .entry)) (now (pos .entry)) (now (neg .entry)) (now (gate .entry)) k (now (cpos .entry)) (now (cneg .entry)) m (now (atoms .entry)) t at i o start r ⌝ }
+    requires { ⌜ (k ≤ 128) × Low (now heads) k × Returning (now heads) (now pos) (now back) k × (m ≤ 128) × (undecided x i o ≤ 16) ⌝ }
+    ensures { λ r. ⌜ Counted (now (heads .entry)) (now (pos .entry)) (now (neg .entry)) (now (gate .entry)) k (now (cpos .entry)) (now (cneg .entry)) m x i o start r ⌝ }
 {
-    let l = least(heads, pos, neg, gate, back, k, true, i, o, start);
-    if intersection(l, o) != 0 {
+    let b = settle(heads, pos, neg, gate, back, k, x, i, o, start, grown);
+    if b.clash {
         return 0;
     }
-    if t <= at {
-        return leaf(cpos, cneg, m, i, l);
+    let ins = b.i;
+    let outs = b.o;
+    let l = b.l;
+    let d = difference(x, union(ins, outs));
+    if d == 0 {
+        return last(heads, pos, neg, gate, back, k, cpos, cneg, m, ins, outs, l);
     }
-    if lacking(heads, pos, neg, gate, back, k, grown, i, o, l) {
-        return 0;
-    }
-    let c = wide(atoms[at]);
-    let next = at + 1;
+    let c = pick(heads, pos, neg, gate, back, k, d, ins, outs, l);
     let inside = branch(
         heads,
         pos,
@@ -236,11 +424,9 @@ pub fn branch(
         cpos,
         cneg,
         m,
-        atoms,
-        t,
-        next,
-        with(i, c),
-        o,
+        x,
+        with(ins, c),
+        outs,
         l,
         true,
     );
@@ -254,11 +440,9 @@ pub fn branch(
         cpos,
         cneg,
         m,
-        atoms,
-        t,
-        next,
-        i,
-        with(o, c),
+        x,
+        ins,
+        with(outs, c),
         l,
         false,
     );

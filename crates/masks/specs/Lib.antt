@@ -1,3 +1,4 @@
 pub mod Collected
 pub mod Negated
-pub mod Tallied
+pub mod Returned
+pub mod SheetCounted

@@ -1,34 +1,37 @@
 -- `counting::least` meets its contract, one law for each way through it.
-use Prim.Native.Nat.{_-_, _<_}
+use Prim.Native.Nat.{_+_, _-_, _*_, _^_}
 use native.Mathlib.Omega.{arith}
 use borrow.Author.Needs.{needs}
-use Rattle.counting.proofs.Passes.{Running, running-start, running-turn, running-end}
+use Rattle.counting.proofs.Passes.{Passing, passing-start, passing-turn, pass-falls, passing-end}
 use Rattle.counting.proofs.least.Statement.{statement}
 use Rattle.counting.proofs.least.Tie as tie
 
 abbrev Inv-loop : tie.InvT-loop
-Inv-loop heads pos neg gate back k sure i o start x₀ next₀ x next = Running heads pos neg gate k sure i o start x next × (next < 18446744073709551616)
+Inv-loop heads pos neg gate back k sure i o start x₀ j₀ x j = Passing heads pos neg gate k sure i o start j x
 
 abbrev μ-loop : tie.MeasureT-loop
-μ-loop heads pos neg gate back k sure i o start x₀ next₀ x next = 18446744073709551616 - x
-
-pass-requires : tie.Need-pass-requires Inv-loop μ-loop
-pass-requires c κs = search needs
+μ-loop heads pos neg gate back k sure i o start x₀ j₀ x j = 129 * (2 ^ 64 - x) + (k - j)
 
 loop-holds : tie.Need-loop-holds Inv-loop μ-loop
-loop-holds c = search (needs, running-start)
+loop-holds c = search (needs, passing-start)
 
-pass-requires-2 : tie.Need-pass-requires-2 Inv-loop μ-loop
-pass-requires-2 c κs = search needs
+fire-at-requires : tie.Need-fire-at-requires Inv-loop μ-loop
+fire-at-requires c κs = (omega arith, c .before .before .pre .1 .low (c .before .loop .j) (omega arith))
+
+element-copy-out-onward : tie.Need-element-copy-out-onward Inv-loop μ-loop
+element-copy-out-onward c = search needs
+
+onward-requires : tie.Need-onward-requires Inv-loop μ-loop
+onward-requires c κs = search needs
 
 loop-less : tie.Need-loop-less Inv-loop μ-loop
-loop-less c = omega arith
+loop-less c = search (needs, pass-falls)
 
 loop-again : tie.Need-loop-again Inv-loop μ-loop
-loop-again c = search (needs, running-turn)
+loop-again c = search (needs, passing-turn)
 
 returns : tie.Need-returns Inv-loop μ-loop
-returns c = search (needs, running-end)
+returns c = search (needs, passing-end)
 
 pub least-spec : {M : Type 1} → statement M
 least-spec =
@@ -36,9 +39,10 @@ least-spec =
     (tie.spec
     Inv-loop
     μ-loop
-    pass-requires
     loop-holds
-    pass-requires-2
+    fire-at-requires
+    element-copy-out-onward
+    onward-requires
     loop-less
     loop-again
     returns)
