@@ -3,7 +3,7 @@ ghost use mathlib.Core.Path.{_≡_};
 ghost use mathlib.Core.Bool.{true};
 ghost use Prim.Native.Nat.{_+_, _≤_, _<_};
 ghost use Rattle.bits.specs.Sets.{has, With, WithIf, Without, ByteAt, Gathered, Subset, Both, Either, Difference, Size};
-ghost use Rattle.bits.specs.Listed.{Listing, Permuted};
+ghost use Rattle.bits.specs.Listed.{Listing};
 ghost use lib.ListN.{length};
 ghost use Rattle.lists.specs.Lists.{below, filter, range};
 
@@ -125,24 +125,6 @@ impl Atoms {
             return Atoms { atoms, t: t + 1 };
         }
         self
-    }
-}
-
-impl Atoms {
-    // With two of them exchanged.
-    pub fn exchange(self, a: usize, b: usize) -> Atoms
-        requires { ⌜ (a < self .t) × (b < self .t) × (self .t ≤ 16) ⌝ }
-        ensures { λ r. ⌜ Permuted self r ⌝ }
-    {
-        if a == b {
-            return self;
-        }
-        let t = self.t;
-        let mut atoms = self.atoms;
-        let x = atoms[a];
-        atoms[a] = atoms[b];
-        atoms[b] = x;
-        Atoms { atoms, t }
     }
 }
 

@@ -1,43 +1,19 @@
 -- Laws of places: the set of places that an atom has edges to, an atom's own place, and the atoms of a component.
-use mathlib.Core.Bool.{Bool, false, _&&_, _||_}
+use mathlib.Core.Bool.{Bool}
 use mathlib.Core.List.{List}
 use mathlib.Core.Path.{_≡_, sym, _∙_, ap, subst}
 use Prim.Native.Nat.{ℕ, _+_, _*_, _%_, _^_, _≤_, _<_}
 use native.Mathlib.Nat.{one-mul}
 use native.Mathlib.Omega.{arith}
-use borrow.Author.Tests.{eqb-true, eqb-false, eq-eqb, ne-eqb, lt-ltb, le-ltb, ltb-true}
-use lib.Dec.{eqb, ltb}
+use borrow.Author.Tests.{eqb-true, eqb-false}
+use lib.Dec.{eqb}
 use lib.ListN.{getD}
 use lib.Pow.{pow-mono, pow-pos, shl-exact}
-use Rattle.lists.proofs.Bools.{by-bool, bool-ext}
+use Rattle.lists.proofs.Bools.{by-bool}
 use Rattle.bits.specs.Sets.{has, WithIf}
 use Rattle.bits.specs.Listed.{Low}
-use Rattle.bits.proofs.Digits.{zero-has, skips}
+use Rattle.bits.proofs.Picking.{Picking, picking-start, picking-turn, picked}
 use Rattle.chains.specs.Table.{Followers, PlaceOf, Power, Members}
-
--- The numbers below p of which the test holds.
-pub record Picking (t : ℕ → Bool) (p set : ℕ) : Type 0 where
-  pub members : (q : ℕ) → has set q ≡ (ltb q p && t q)
-
-module _ (t : ℕ → Bool) where
-  picking-start : Picking t 0 0
-  picking-start = record { members = λ q. zero-has q ∙ ap (λ (y : Bool). y && t q) (sym (le-ltb q 0 (omega arith))) }
-
-  picking-turn : (p set new : ℕ) (b : Bool) → Picking t p set → b ≡ t p → WithIf set p b new → Picking t (p + 1) new
-  picking-turn p set new b F e W =
-      record { members = λ q. W .members q ∙ by-bool (eqb q p) (λ y. here q (eqb-true q p y)) (λ y. there q (eqb-false q p y)) }
-    where
-      here : (q : ℕ) → q ≡ p → (has set q || eqb q p && b) ≡ (ltb q (p + 1) && t q)
-      here q g = rw (F .members q, le-ltb q p (omega arith), eq-eqb q p g, lt-ltb q (p + 1) (omega arith)) (e ∙ ap t (sym g))
-
-      there : (q : ℕ) → (q ≡ p → ⊥) → (has set q || eqb q p && b) ≡ (ltb q (p + 1) && t q)
-      there q ne =
-          rw (ne-eqb q p ne, F .members q)
-          (sym (skips (ltb q p && t q) false)
-          ∙ ap (λ (y : Bool). y && t q) (bool-ext (λ y. lt-ltb q (p + 1) (let l = ltb-true q p y in omega arith)) (λ y. lt-ltb q p (let l = ltb-true q (p + 1) y in omega arith))))
-
-  picked : (p k set : ℕ) → Picking t p set → p ≤ k → k ≤ p → (q : ℕ) → has set q ≡ (ltb q k && t q)
-  picked p k set F l m q = F .members q ∙ ap (λ i. ltb q i && t q) (let e : p ≡ k = omega arith in e)
 
 -- The places that x has edges to.
 abbrev pub Following : List ℕ → List ℕ → ℕ → ℕ → ℕ → Type 0
