@@ -112,7 +112,7 @@ module _ (s sequence : List ℕ) (old-x old-y old-z : ℕ) (old new : List ℤ) 
   pub clauses-no : (k : ℕ) → answer ≡ clauses.Refused k → Clauses s sequence k old new old-x old-y old-z old-x old-y old-z
   clauses-no k e =
       let u = is-refused k asked values (sym (ap outcomes.clausesOf e) ∙ W .says) in
-      record { says = u .0; leaves = W .leaves; size = kept asked _ old-x (u .1); variables = kept asked _ old-y (u .1); clauses = kept asked _ old-z (u .1) }
+      record { output = record { says = u .0; leaves = W .leaves; size = kept asked _ old-x (u .1) }; variables = kept asked _ old-y (u .1); clauses = kept asked _ old-z (u .1) }
 
   pub clauses-yes : (l v c : ℕ) → answer ≡ clauses.Written l v c → Clauses s sequence 0 old new old-x old-y old-z l v c
   unfolding clauseNumbers
@@ -123,9 +123,7 @@ module _ (s sequence : List ℕ) (old-x old-y old-z : ℕ) (old new : List ℤ) 
       let b : v ≡ variablesOf (program s) (entries sequence) = cc same in
       let d : c ≡ length (clausesOf (program s) (entries sequence)) = cc same in
       record {
-        says = sym (eqb-true asked 0 (u .1));
-        leaves = W .leaves;
-        size = a ∙ taken asked _ old-x (u .1);
+        output = record { says = sym (eqb-true asked 0 (u .1)); leaves = W .leaves; size = a ∙ taken asked _ old-x (u .1) };
         variables = b ∙ taken asked _ old-y (u .1);
         clauses = d ∙ taken asked _ old-z (u .1);
       }

@@ -33,10 +33,8 @@ pub record Output {A : Type 0} (q r : ℕ) (output old new : List A) (old-length
   pub leaves : new ≡ cond (eqb q 0) (output ++ drop (length output) old) old
   pub size : new-length ≡ stored q (length output) old-length
 
--- Writing clauses: the number of words, of variables and of clauses are stored.
+-- Writing clauses: the numbers of variables and of clauses are stored too.
 pub record Clauses (s sequence : List ℕ) (r : ℕ) (old new : List ℤ) (old-x old-y old-z new-x new-y new-z : ℕ) : Type 0 where
-  pub says : r ≡ clausesQuestions office (length old) s sequence
-  pub leaves : new ≡ cond (eqb (clausesQuestions office (length old) s sequence) 0) (clauseWords s sequence ++ drop (length (clauseWords s sequence)) old) old
-  pub size : new-x ≡ stored (clausesQuestions office (length old) s sequence) (length (clauseWords s sequence)) old-x
+  pub output : Output (clausesQuestions office (length old) s sequence) r (clauseWords s sequence) old new old-x new-x
   pub variables : new-y ≡ stored (clausesQuestions office (length old) s sequence) (variablesOf (program s) (entries sequence)) old-y
   pub clauses : new-z ≡ stored (clausesQuestions office (length old) s sequence) (length (clausesOf (program s) (entries sequence))) old-z

@@ -72,8 +72,8 @@ pub extern "C" fn rulesheet_components(sheet: &[u8], out: &mut [u8], written: &m
     let answer = components(sheet, out);
     match answer {
         WriteAnswer::Refused(q) => q,
-        WriteAnswer::Length(l) => {
-            *written = l;
+        WriteAnswer::Length(n) => {
+            *written = n;
             0
         }
     }
@@ -87,8 +87,8 @@ pub extern "C" fn rulesheet_default(sheet: &[u8], out: &mut [u8], written: &mut 
     let answer = default_sequence(sheet, out);
     match answer {
         WriteAnswer::Refused(q) => q,
-        WriteAnswer::Length(l) => {
-            *written = l;
+        WriteAnswer::Length(bytes) => {
+            *written = bytes;
             0
         }
     }
@@ -119,8 +119,8 @@ pub extern "C" fn rulesheet_unfolded(
     let answer = unfolded(sheet, sequence, out);
     match answer {
         WriteAnswer::Refused(q) => q,
-        WriteAnswer::Length(l) => {
-            *written = l;
+        WriteAnswer::Length(words) => {
+            *written = words;
             0
         }
     }

@@ -125,8 +125,8 @@ pub fn put_back(
     let m = a + byte_at(s, from + 3);
     let e = from + 1 + byte_at(s, from);
     let middle = put_flipped(out, at, &s[a..m], vars, true);
-    let end = put_flipped(out, middle, &s[m..e], vars, false);
-    put_plain(out, end, 0)
+    let last = put_flipped(out, middle, &s[m..e], vars, false);
+    put_plain(out, last, 0)
 }
 
 // The clauses of the rule at an offset, with the variable d, for h.
