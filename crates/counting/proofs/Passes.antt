@@ -74,15 +74,13 @@ module _ (heads pos neg gate : List ℕ) where
     pub passing-end : (l j x : ℕ) → Passing l j x → k ≤ j → LeastBy heads pos neg gate k sure i o l x
     passing-end l j x P h =
         record {
-          least = λ rs H s. record {
-            closed = λ a t.
-                let F = fired-out (test sure (has i) (has o)) rs (has x) a t in
-                let m = H .complete (F .rule) (F .stands) in
-                let low = m .1 in
-                subst (λ b. has x b ≡ true) (m .2 .heads ∙ F .head)
-                (P .still (m .0) (omega arith) (F .rule) (m .2) (F .passes) (all-masked (getD pos (m .0) 0) (F .rule .rule .body .pos) (m .2 .positives) (has x) (F .positives)));
-            least = λ Y c. P .below rs H Y c (s Y c);
-          };
+          closed = λ rs H a t.
+              let F = fired-out (test sure (has i) (has o)) rs (has x) a t in
+              let m = H .complete (F .rule) (F .stands) in
+              let low = m .1 in
+              subst (λ b. has x b ≡ true) (m .2 .heads ∙ F .head)
+              (P .still (m .0) (omega arith) (F .rule) (m .2) (F .passes) (all-masked (getD pos (m .0) 0) (F .rule .rule .body .pos) (m .2 .positives) (has x) (F .positives)));
+          below = P .below;
         }
 
     -- Either the set grows or the pass goes on behind j.

@@ -12,14 +12,14 @@ use lib.ListN.{length}
 use lib.Pow.{pow-pos, pow-mono}
 use Rattle.lists.specs.Lists.{all, range}
 use Rattle.lists.proofs.Bools.{by-bool, true-false, is-true, is-false, bool-ext, and-intro, and-left, and-right, or-cases, or-left, or-right, not-intro, not-elim}
-use Rattle.lists.proofs.Members.{all-at, all-intro, all-fails, filter-cong, range-in, range-out}
+use Rattle.lists.proofs.Members.{all-at, all-intro, all-fails, filter-cong, filter-none, range-in, range-out}
 use Rattle.lists.proofs.Nodup.{filter-lt, nodup-range}
 use Rattle.asp.specs.Program.{Body, State, outside, holds}
-use Rattle.asp.specs.LeastModel.{Closed, Inside, Least}
+use Rattle.asp.specs.LeastModel.{Inside, Least}
 use Rattle.asp.specs.Count.{with, states}
-use Rattle.asp.specs.Decided.{CountRule, surely, possibly, isSettledBy, agrees, countBy}
+use Rattle.asp.specs.Decided.{CountRule, applies, surely, possibly, isSettledBy, agrees, countBy}
 use Rattle.asp.proofs.Counted.{states-within}
-use Rattle.asp.proofs.Branching.{SettledBy, settled-by-out, fired-out, chosen-more, lower-inside, upper-inside, agree-make, clash-lower, clash-upper, leaf-one, leaf-unlawful, count-split}
+use Rattle.asp.proofs.Branching.{SettledBy, settled-by-out, fired-out, chosen-more, upper-inside, agree-make, clash-lower, clash-upper, leaf-one, leaf-unlawful, count-split}
 use Rattle.bits.specs.Sets.{has, With, Subset, Both, Either, Difference}
 use Rattle.bits.proofs.Digits.{digits-same, inside-le, zero-has}
 use Rattle.counting.specs.Rules.{operator, LeastBy, Lawful}
@@ -27,14 +27,7 @@ use Rattle.counting.specs.Search.{isOpen, undecided, Task, Leaf, Last, N
 use Rattle.counting.specs.declared.Bounds.{Bounds}
 use Rattle.counting.proofs.Rules.{empty-both}
 
--- More decided, more rules surely apply.
-surely-more : (i o i′ o′ : ℕ) → Inside (has i) (has i′) → Inside (has o) (has o′) → (r : CountRule) → surely (has i) (has o) r ≡ true → surely (has i′) (has o′) r ≡ true
-surely-more i o i′ o′ f g r e =
-    let neg = r .rule .body .neg in
-    let h = r .rule .head in
-    and-intro (all-intro (has o′) neg (λ a m. g a (all-at (has o) neg (and-left (all (has o) neg) (not (r .free) || has i h) e) a m)))
-    (⊎-elim (λ q. or-left (has i′ h) q) (λ q. or-right (not (r .free)) (f h q)) (or-cases (not (r .free)) (has i h) (and-right (all (has o) neg) (not (r .free) || has i h) e)))
-
+-- What surely applies possibly does.
 surely-possibly : (i o : ℕ) → ((a : ℕ) → has i a ≡ true → has o a ≡ false) → (r : CountRule) → surely (has i) (has o) r ≡ true → possibly (has i) (has o) r ≡ true
 unfolding outside
 surely-possibly i o apart r e =
@@ -57,12 +50,11 @@ agree-more : (n : ℕ) (i o i′ o′ X : State) → agrees n i o X ≡ true →
 agree-more n i o i′ o′ X g f h =
     agree-make n i′ o′ X (λ a l t. ⊎-elim (agree-at n i o X g a l .0) (λ x. x) (f a t)) (λ a l t. ⊎-elim (agree-at n i o X g a l .1) (λ x. x) (h a t))
 
-module _ (n : ℕ) (rs : List CountRule) (cs : List Body) (heads pos neg gate : List ℕ) (k : ℕ) (cpos cneg : List ℕ) (m x i o start : ℕ)
-    (T : Task n rs cs heads pos neg gate k cpos cneg m x i o start) where
+module _ (n : ℕ) (rs : List CountRule) (cs : List Body) (heads pos neg gate : List ℕ) (k : ℕ) (cpos cneg : List ℕ) (m x i o : ℕ)
+    (T : Task n rs cs heads pos neg gate k cpos cneg m x i o) where
   -- More is decided.
-  more : (i′ o′ l : ℕ) → Inside (has i) (has i′) → Inside (has o) (has o′) → ((a : ℕ) → has i′ a ≡ true → a < n) → ((a : ℕ) → has i′ a ≡ true → has o′ a ≡ false)
-      → ((Y : State) → Closed (operator true i o rs) Y → Inside (has l) Y) → Task n rs cs heads pos neg gate k cpos cneg m x i′ o′ l
-  more i′ o′ l p q low apart below =
+  more : (i′ o′ : ℕ) → ((a : ℕ) → has i′ a ≡ true → a < n) → ((a : ℕ) → has i′ a ≡ true → has o′ a ≡ false) → Task n rs cs heads pos neg gate k cpos cneg m x i′ o′
+  more i′ o′ low apart =
       record {
         held = T .held;
         bodies = T .bodies;
@@ -72,7 +64,6 @@ module _ (n : ℕ) (rs : List CountRule) (cs : List Body) (heads pos neg gate : 
         low = T .low;
         ins-low = low;
         apart = apart;
-        below = λ Y c. below Y (λ a e. c a (chosen-more (surely (has i) (has o)) (surely (has i′) (has o′)) rs (λ r _. surely-more i o i′ o′ p q r) Y a e));
       }
 
   -- It follows from what was decided.
@@ -91,6 +82,32 @@ module _ (n : ℕ) (rs : List CountRule) (cs : List Body) (heads pos neg gate : 
       (λ e. and-intro (and-left (isSettledBy n rs cs X) (agrees n (has i′) (has o′) X) e)
       (agree-more n (has i′) (has o′) (has i) (has o) X (and-right (isSettledBy n rs cs X) (agrees n (has i′) (has o′) X) e) (λ a t. inl (p a t)) (λ a t. inl (q a t))))))
 
+  no-state : ((X : State) → SettledBy n rs (T .heads-low) cs X → agrees n (has i) (has o) X ≡ true → ⊥) → countBy n rs cs (has i) (has o) ≡ 0
+  unfolding countBy
+  no-state h =
+      ap length (filter-none (λ X. isSettledBy n rs cs X && agrees n (has i) (has o) X) (states n) (λ X w. is-false (λ e.
+      h X (settled-by-out n rs (T .heads-low) cs X (states-within n X w) (and-left (isSettledBy n rs cs X) (agrees n (has i) (has o) X) e)) (and-right (isSettledBy n rs cs X) (agrees n (has i) (has o) X) e))))
+
+  -- A settled state that agrees is closed under the rules that surely apply.
+  sure-applies : (X : State) → agrees n (has i) (has o) X ≡ true → (r : CountRule) → List·Memᴰ r rs → surely (has i) (has o) r ≡ true → applies X r ≡ true
+  unfolding outside
+  sure-applies X g r w e =
+      let ns = r .rule .body .neg in
+      let h = r .rule .head in
+      and-intro (all-intro (λ a. not (X a)) ns (λ a q. not-intro (agree-at n (has i) (has o) X g a (T .negs-low r w a q) .1 (all-at (has o) ns (and-left (all (has o) ns) (not (r .free) || has i h) e) a q))))
+      (⊎-elim (λ f. or-left (X h) f) (λ t. or-right (not (r .free)) (agree-at n (has i) (has o) X g h (T .heads-low r w) .0 t)) (or-cases (not (r .free)) (has i h) (and-right (all (has o) ns) (not (r .free) || has i h) e)))
+
+  follows : (l : ℕ) → LeastBy heads pos neg gate k true i o i l → (X : State) → SettledBy n rs (T .heads-low) cs X → agrees n (has i) (has o) X ≡ true → Inside (has l) X
+  follows l B X S g =
+      B .below rs (T .held) X (λ a e. S .least .closed a (chosen-more (surely (has i) (has o)) (applies X) rs (sure-applies X g) X a e))
+      (λ a t. agree-at n (has i) (has o) X g a (T .ins-low a t) .0 t)
+
+  -- What follows meets what is out.
+  meets : (l : ℕ) → LeastBy heads pos neg gate k true i o i l → (r : ℕ) → r < 2 ^ 64 → Both l o r → (r ≡ 0 → ⊥) → countBy n rs cs (has i) (has o) ≡ 0
+  meets l B r small W ne =
+      no-state (λ X S g. ne (empty-both l o r small W (λ a t. is-false (λ q. let y = follows l B X S g a t in
+      true-false y (agree-at n (has i) (has o) X g a (S .within a y) .1 q)))))
+
   -- An upper bound lacks what is in.
   lacks : (u : ℕ) → Least (operator false i o rs) (has u) → Subset i u false → countBy n rs cs (has i) (has o) ≡ 0
   lacks u upper S =
@@ -102,31 +119,47 @@ module _ (n : ℕ) (rs : List CountRule) (cs : List Body) (heads pos neg gate : 
       clash-upper n rs (T .heads-low) (T .negs-low) cs (has i) (has o) (has u) upper (w .0) (omega (arith, h .high))
       (is-true (λ q. true-false (or-left (has u (w .0)) (not-intro q)) (w .2))) (is-false (λ q. true-false (or-right (not (has i (w .0))) q) (w .2))))
 
-  -- The upper bound.
-  upper : (u : ℕ) → LeastBy heads pos neg gate k false i o start u → Least (operator false i o rs) (has u)
-  upper u C = C .least rs (T .held) (λ Y c. T .below Y (λ a e. c a (chosen-more (surely (has i) (has o)) (possibly (has i) (has o)) rs (λ r _. surely-possibly i o (T .apart) r) Y a e)))
+  -- The least model.
+  from-nothing : (sure : Bool) (l : ℕ) → LeastBy heads pos neg gate k sure i o 0 l → Least (operator sure i o rs) (has l)
+  from-nothing sure l B = record { closed = B .closed rs (T .held); least = λ Y c. B .below rs (T .held) Y c (λ a e. absurd (true-false e (zero-has a))) }
 
   -- What the upper bound lacks is out.
-  module _ (u : ℕ) (C : LeastBy heads pos neg gate k false i o start u) (S : Subset i u true) (z outs : ℕ) (Z : Difference x u z) (E : Either o z outs) where
+  module _ (u : ℕ) (C : LeastBy heads pos neg gate k false i o 0 u) (S : Subset i u true) (z outs : ℕ) (Z : Difference x u z) (E : Either o z outs) where
     outs-cases : (a : ℕ) → has outs a ≡ true → (has o a ≡ true) ⊎ (has u a ≡ false)
     outs-cases a t = ⊎-elim inl (λ q. inr (not-elim (and-right (has x a) (not (has u a)) (sym (Z .members a) ∙ q)))) (or-cases (has o a) (has z a) (sym (E .members a) ∙ t))
 
     outs-more : Inside (has o) (has outs)
     outs-more a t = E .members a ∙ or-left (has z a) t
 
-    cut : Task n rs cs heads pos neg gate k cpos cneg m x i outs start
+    cut : Task n rs cs heads pos neg gate k cpos cneg m x i outs
     cut =
-        more i outs start (λ a t. t) outs-more (T .ins-low)
-        (λ a t. is-false (λ q. ⊎-elim (λ p. true-false p (T .apart a t)) (λ f. true-false (S .inside refl a t) f) (outs-cases a q))) (T .below)
+        more i outs (T .ins-low)
+        (λ a t. is-false (λ q. ⊎-elim (λ p. true-false p (T .apart a t)) (λ f. true-false (S .inside refl a t) f) (outs-cases a q)))
 
     cut-count : countBy n rs cs (has i) (has o) ≡ countBy n rs cs (has i) (has outs)
     cut-count =
         same-count i outs (λ a t. t) outs-more (λ X F g.
-        (λ a t. inl t, λ a t. ⊎-elim inl (λ f. inr (is-false (λ q. true-false (upper-inside n rs (T .heads-low) (T .negs-low) cs (has i) (has o) (has u) X (upper u C) F g a q) f))) (outs-cases a t)))
+        (λ a t. inl t, λ a t. ⊎-elim inl (λ f. inr (is-false (λ q. true-false (upper-inside n rs (T .heads-low) (T .negs-low) cs (has i) (has o) (has u) X (from-nothing false u C) F g a q) f))) (outs-cases a t)))
 
-  module _ (l : ℕ) (B : LeastBy heads pos neg gate k true i o start l) where
+  -- What follows is in.
+  module _ (l : ℕ) (B : LeastBy heads pos neg gate k true i o i l) (r : ℕ) (W : Both l o r) (none : r ≡ 0) (y ins : ℕ) (Y : Both l x y) (E : Either i y ins) where
+    ins-cases : (a : ℕ) → has ins a ≡ true → (has i a ≡ true) ⊎ ((has l a ≡ true) × (has x a ≡ true))
+    ins-cases a t =
+        ⊎-elim inl (λ q. let e = sym (Y .members a) ∙ q in inr (and-left (has l a) (has x a) e, and-right (has l a) (has x a) e)) (or-cases (has i a) (has y a) (sym (E .members a) ∙ t))
+
+    joined : Task n rs cs heads pos neg gate k cpos cneg m x ins o
+    joined =
+        more ins o (λ a t. ⊎-elim (T .ins-low a) (λ q. T .low a (q .1)) (ins-cases a t))
+        (λ a t. ⊎-elim (T .apart a) (λ q. is-false (λ p. true-false (W .members a ∙ and-intro (q .0) p) (ap (λ z. has z a) none ∙ zero-has a))) (ins-cases a t))
+
+    joined-count : countBy n rs cs (has i) (has o) ≡ countBy n rs cs (has ins) (has o)
+    joined-count =
+        same-count ins o (λ a t. E .members a ∙ or-left (has y a) t) (λ a t. t) (λ X F g.
+        (λ a t. ⊎-elim inl (λ q. inr (follows l B X F g a (q .0))) (ins-cases a t), λ a t. inl t))
+
+  module _ (l : ℕ) (B : LeastBy heads pos neg gate k true i o 0 l) where
     lower : Least (operator true i o rs) (has l)
-    lower = B .least rs (T .held) (T .below)
+    lower = from-nothing true l B
 
     within : (a : ℕ) → has l a ≡ true → a < n
     within a e =
@@ -144,25 +177,6 @@ module _ (n : ℕ) (rs : List CountRule) (cs : List Body) (heads pos neg gate : 
         let h = range-out 0 n (w .0) (w .1) in
         clash-lower n rs (T .heads-low) (T .negs-low) cs (has i) (has o) (has l) lower (w .0) (omega (arith, h .high))
         (and-left (has l (w .0)) (has o (w .0)) both) (and-right (has l (w .0)) (has o (w .0)) both))
-
-    -- The atoms of the lower bound are in.
-    module _ (r : ℕ) (W : Both l o r) (none : r ≡ 0) (y ins : ℕ) (Y : Both l x y) (E : Either i y ins) where
-      ins-cases : (a : ℕ) → has ins a ≡ true → (has i a ≡ true) ⊎ ((has l a ≡ true) × (has x a ≡ true))
-      ins-cases a t =
-          ⊎-elim inl (λ q. let e = sym (Y .members a) ∙ q in inr (and-left (has l a) (has x a) e, and-right (has l a) (has x a) e)) (or-cases (has i a) (has y a) (sym (E .members a) ∙ t))
-
-      ins-more : Inside (has i) (has ins)
-      ins-more a t = E .members a ∙ or-left (has y a) t
-
-      joined : Task n rs cs heads pos neg gate k cpos cneg m x ins o l
-      joined =
-          more ins o l ins-more (λ a t. t) (λ a t. ⊎-elim (T .ins-low a) (λ q. T .low a (q .1)) (ins-cases a t))
-          (λ a t. ⊎-elim (T .apart a) (λ q. is-false (λ p. true-false (W .members a ∙ and-intro (q .0) p) (ap (λ z. has z a) none ∙ zero-has a))) (ins-cases a t)) (lower .least)
-
-      joined-count : countBy n rs cs (has i) (has o) ≡ countBy n rs cs (has ins) (has o)
-      joined-count =
-          same-count ins o ins-more (λ a t. t) (λ X F g.
-          (λ a t. ⊎-elim inl (λ q. inr (lower-inside n rs (T .heads-low) (T .negs-low) cs (has i) (has o) (has l) X lower F g a (q .0))) (ins-cases a t), λ a t. inl t))
 
     -- Everything is decided: the bounds are one set.
     module _ (settle : (a : ℕ) → has x a ≡ true → (has i a || has o a) ≡ true) where
@@ -247,21 +261,21 @@ module _ (cpos cneg : List ℕ) (m i l : ℕ) where
       (λ f. let e : v ≡ 0 = K .is ∙ rw f refl in omega arith)
 
 -- With everything decided.
-module _ (heads pos neg gate : List ℕ) (k : ℕ) (cpos cneg : List ℕ) (m i o start l : ℕ) (B : LeastBy heads pos neg gate k true i o start l) where
-  pub last-met : (r : ℕ) → r < 2 ^ 64 → Both l o r → (r ≡ 0 → ⊥) → Last heads pos neg gate k cpos cneg m i o start 0
-  last-met r s W ne = record { is = λ n rs cs x T _. sym (met n rs cs heads pos neg gate k cpos cneg m x i o start T l B r s W ne); small = omega arith }
+module _ (heads pos neg gate : List ℕ) (k : ℕ) (cpos cneg : List ℕ) (m i o l : ℕ) (B : LeastBy heads pos neg gate k true i o 0 l) where
+  pub last-met : (r : ℕ) → r < 2 ^ 64 → Both l o r → (r ≡ 0 → ⊥) → Last heads pos neg gate k cpos cneg m i o 0
+  last-met r s W ne = record { is = λ n rs cs x T _. sym (met n rs cs heads pos neg gate k cpos cneg m x i o T l B r s W ne); small = omega arith }
 
-  pub last-leaf : (r v : ℕ) → r < 2 ^ 64 → Both l o r → r ≡ 0 → Leaf cpos cneg m i l v → Last heads pos neg gate k cpos cneg m i o start v
-  last-leaf r v s W z K = record { is = λ n rs cs x T d. candidate n rs cs heads pos neg gate k cpos cneg m x i o start T l B d r s W z v K; small = leaf-small cpos cneg m i l v K }
+  pub last-leaf : (r v : ℕ) → r < 2 ^ 64 → Both l o r → r ≡ 0 → Leaf cpos cneg m i l v → Last heads pos neg gate k cpos cneg m i o v
+  last-leaf r v s W z K = record { is = λ n rs cs x T d. candidate n rs cs heads pos neg gate k cpos cneg m x i o T l B d r s W z v K; small = leaf-small cpos cneg m i l v K }
 
 -- One round of narrowing.
-module _ (heads pos neg gate : List ℕ) (k x i o start l : ℕ) (B : LeastBy heads pos neg gate k true i o start l) (low : o < 2 ^ 64) where
-  pub round-met : (r : ℕ) → r < 2 ^ 64 → Both l o r → (r ≡ 0 → ⊥) → Round heads pos neg gate k x i o start (record { i = i; o = o; l = l; clash = true })
+module _ (heads pos neg gate : List ℕ) (k x i o l : ℕ) (B : LeastBy heads pos neg gate k true i o i l) (low : o < 2 ^ 64) where
+  pub round-met : (r : ℕ) → r < 2 ^ 64 → Both l o r → (r ≡ 0 → ⊥) → Round heads pos neg gate k x i o (record { i = i; o = o; clash = true })
   round-met r s W ne =
       record {
         narrowed = record {
           is = λ n rs cs cpos cneg m T. record {
-            none = λ _. met n rs cs heads pos neg gate k cpos cneg m x i o start T l B r s W ne;
+            none = λ _. meets n rs cs heads pos neg gate k cpos cneg m x i o T l B r s W ne;
             same = λ e. absurd (true-false refl e);
             task = λ e. absurd (true-false refl e);
           };
@@ -273,14 +287,14 @@ module _ (heads pos neg gate : List ℕ) (k x i o start l : ℕ) (B : LeastBy he
         stops = λ _. refl;
       }
 
-  pub round-still : Round heads pos neg gate k x i o start (record { i = i; o = o; l = l; clash = false })
+  pub round-still : Round heads pos neg gate k x i o (record { i = i; o = o; clash = false })
   round-still =
       record {
         narrowed = record {
           is = λ n rs cs cpos cneg m T. record {
             none = λ e. absurd (true-false e refl);
             same = λ _. refl;
-            task = λ _. more n rs cs heads pos neg gate k cpos cneg m x i o start T i o l (λ a t. t) (λ a t. t) (T .ins-low) (T .apart) (lower n rs cs heads pos neg gate k cpos cneg m x i o start T l B .least);
+            task = λ _. T;
           };
           ins = λ a t. t;
           outs = λ a t. t;
@@ -290,16 +304,16 @@ module _ (heads pos neg gate : List ℕ) (k x i o start l : ℕ) (B : LeastBy he
         stops = λ _. refl;
       }
 
-  module _ (r : ℕ) (W : Both l o r) (none : r ≡ 0) (y ins : ℕ) (Y : Both l x y) (E : Either i y ins) (u : ℕ) (C : LeastBy heads pos neg gate k false ins o l u) (b : Bool) (S : Subset ins u b) where
-    pub round-lacks : b ≡ false → Round heads pos neg gate k x i o start (record { i = i; o = o; l = l; clash = true })
+  module _ (r : ℕ) (W : Both l o r) (none : r ≡ 0) (y ins : ℕ) (Y : Both l x y) (E : Either i y ins) (u : ℕ) (C : LeastBy heads pos neg gate k false ins o 0 u) (b : Bool) (S : Subset ins u b) where
+    pub round-lacks : b ≡ false → Round heads pos neg gate k x i o (record { i = i; o = o; clash = true })
     round-lacks f =
         record {
           narrowed = record {
             is = λ n rs cs cpos cneg m T.
-                let J = joined n rs cs heads pos neg gate k cpos cneg m x i o start T l B r W none y ins Y E in
+                let J = joined n rs cs heads pos neg gate k cpos cneg m x i o T l B r W none y ins Y E in
                 record {
-                  none = λ _. joined-count n rs cs heads pos neg gate k cpos cneg m x i o start T l B r W none y ins Y E
-                      ∙ lacks n rs cs heads pos neg gate k cpos cneg m x ins o l J u (upper n rs cs heads pos neg gate k cpos cneg m x ins o l J u C) (subst (Subset ins u) f S);
+                  none = λ _. joined-count n rs cs heads pos neg gate k cpos cneg m x i o T l B r W none y ins Y E
+                      ∙ lacks n rs cs heads pos neg gate k cpos cneg m x ins o J u (from-nothing n rs cs heads pos neg gate k cpos cneg m x ins o J false u C) (subst (Subset ins u) f S);
                   same = λ e. absurd (true-false refl e);
                   task = λ e. absurd (true-false refl e);
                 };
@@ -311,18 +325,18 @@ module _ (heads pos neg gate : List ℕ) (k x i o start l : ℕ) (B : LeastBy he
           stops = λ _. refl;
         }
 
-    pub round-goes : (z outs : ℕ) → b ≡ true → Difference x u z → Either o z outs → outs < 2 ^ 64 → Round heads pos neg gate k x i o start (record { i = ins; o = outs; l = l; clash = false })
+    pub round-goes : (z outs : ℕ) → b ≡ true → Difference x u z → Either o z outs → outs < 2 ^ 64 → Round heads pos neg gate k x i o (record { i = ins; o = outs; clash = false })
     round-goes z outs t Z D high =
         record {
           narrowed = record {
             is = λ n rs cs cpos cneg m T.
-                let J = joined n rs cs heads pos neg gate k cpos cneg m x i o start T l B r W none y ins Y E in
+                let J = joined n rs cs heads pos neg gate k cpos cneg m x i o T l B r W none y ins Y E in
                 let S′ = subst (Subset ins u) t S in
                 record {
                   none = λ e. absurd (true-false e refl);
-                  same = λ _. joined-count n rs cs heads pos neg gate k cpos cneg m x i o start T l B r W none y ins Y E
-                      ∙ cut-count n rs cs heads pos neg gate k cpos cneg m x ins o l J u C S′ z outs Z D;
-                  task = λ _. cut n rs cs heads pos neg gate k cpos cneg m x ins o l J u C S′ z outs Z D;
+                  same = λ _. joined-count n rs cs heads pos neg gate k cpos cneg m x i o T l B r W none y ins Y E
+                      ∙ cut-count n rs cs heads pos neg gate k cpos cneg m x ins o J u C S′ z outs Z D;
+                  task = λ _. cut n rs cs heads pos neg gate k cpos cneg m x ins o J u C S′ z outs Z D;
                 };
             ins = λ a s. E .members a ∙ or-left (has y a) s;
             outs = λ a s. D .members a ∙ or-left (has z a) s;
@@ -333,18 +347,18 @@ module _ (heads pos neg gate : List ℕ) (k x i o start l : ℕ) (B : LeastBy he
         }
 
 -- Rounds, the last from atoms out.
-pub record Settling (heads pos neg gate : List ℕ) (k x i o start seen : ℕ) (B : Bounds) : Type 0 where
-  pub done : Narrowed heads pos neg gate k x i o start B
+pub record Settling (heads pos neg gate : List ℕ) (k x i o seen : ℕ) (B : Bounds) : Type 0 where
+  pub done : Narrowed heads pos neg gate k x i o B
   pub grows : seen ≤ B .o
   pub fits : B .o < 2 ^ 64
   pub stops : B .clash ≡ true → B .o ≡ seen
 
-module _ (heads pos neg gate : List ℕ) (k x i o start : ℕ) where
-  pub settling-start : (B : Bounds) → Round heads pos neg gate k x i o start B → Settling heads pos neg gate k x i o start o B
+module _ (heads pos neg gate : List ℕ) (k x i o : ℕ) where
+  pub settling-start : (B : Bounds) → Round heads pos neg gate k x i o B → Settling heads pos neg gate k x i o o B
   settling-start B R = record { done = R .narrowed; grows = R .grows; fits = R .fits; stops = R .stops }
 
-  pub settling-turn : (seen : ℕ) (B C : Bounds) → Settling heads pos neg gate k x i o start seen B → (B .o ≡ seen → ⊥) → Round heads pos neg gate k x (B .i) (B .o) (B .l) C
-      → Settling heads pos neg gate k x i o start (B .o) C
+  pub settling-turn : (seen : ℕ) (B C : Bounds) → Settling heads pos neg gate k x i o seen B → (B .o ≡ seen → ⊥) → Round heads pos neg gate k x (B .i) (B .o) C
+      → Settling heads pos neg gate k x i o (B .o) C
   settling-turn seen B C A ne R =
       let f : B .clash ≡ false = is-false (λ t. ne (A .stops t)) in
       record {
@@ -361,7 +375,7 @@ module _ (heads pos neg gate : List ℕ) (k x i o start : ℕ) where
         stops = R .stops;
       }
 
-  pub settling-end : (seen : ℕ) (B : Bounds) → Settling heads pos neg gate k x i o start seen B → Narrowed heads pos neg gate k x i o start B
+  pub settling-end : (seen : ℕ) (B : Bounds) → Settling heads pos neg gate k x i o seen B → Narrowed heads pos neg gate k x i o B
   settling-end seen B A = A .done
 
 -- Fewer atoms are undecided.
@@ -378,15 +392,15 @@ fewer x i o i′ o′ c p q l t d =
         (not-intro (is-false (λ s. true-false (⊎-elim (λ v. or-left (has o′ a) (p a v)) (λ v. or-right (has i′ a) (q a v)) (or-cases (has i a) (has o a) s)) (not-elim (and-right (has x a) (not (has i′ a || has o′ a)) e)))))
 
 -- The ways out of the search.
-module _ (heads pos neg gate : List ℕ) (k x i o start : ℕ) (B : Bounds) (N : Narrowed heads pos neg gate k x i o start B) where
-  pub found-none : (cpos cneg : List ℕ) (m : ℕ) → B .clash ≡ true → Counted heads pos neg gate k cpos cneg m x i o start 0
+module _ (heads pos neg gate : List ℕ) (k x i o : ℕ) (B : Bounds) (N : Narrowed heads pos neg gate k x i o B) where
+  pub found-none : (cpos cneg : List ℕ) (m : ℕ) → B .clash ≡ true → Counted heads pos neg gate k cpos cneg m x i o 0
   found-none cpos cneg m t = record { is = λ n rs cs T. sym (N .is n rs cs cpos cneg m T .none t); small = omega arith }
 
   module _ (e d : ℕ) (E : Either (B .i) (B .o) e) (D : Difference x e d) where
     open-here : (a : ℕ) → has d a ≡ isOpen x (B .i) (B .o) a
     open-here a = D .members a ∙ ap (λ (b : Bool). has x a && not b) (E .members a)
 
-    pub found-last : (cpos cneg : List ℕ) (m v : ℕ) → B .clash ≡ false → d ≡ 0 → Last heads pos neg gate k cpos cneg m (B .i) (B .o) (B .l) v → Counted heads pos neg gate k cpos cneg m x i o start v
+    pub found-last : (cpos cneg : List ℕ) (m v : ℕ) → B .clash ≡ false → d ≡ 0 → Last heads pos neg gate k cpos cneg m (B .i) (B .o) v → Counted heads pos neg gate k cpos cneg m x i o v
     found-last cpos cneg m v f z K =
         record {
           is = λ n rs cs T. let U = N .is n rs cs cpos cneg m T in
@@ -412,24 +426,24 @@ module _ (heads pos neg gate : List ℕ) (k x i o start : ℕ) (B : Bounds) (N :
       pub fewer-out : (o′ : ℕ) → With (B .o) c o′ → undecided x (B .i) o′ < undecided x i o
       fewer-out o′ O = fewer x i o (B .i) o′ c (N .ins) (λ a t. with-kept (B .o) c o′ O a (N .outs a t)) (M .low) opened (or-right (has (B .i) c) (with-own (B .o) c o′ O))
 
-      module _ (n : ℕ) (rs : List CountRule) (cs : List Body) (cpos cneg : List ℕ) (m : ℕ) (T : Task n rs cs heads pos neg gate k cpos cneg m x (B .i) (B .o) (B .l)) where
+      module _ (n : ℕ) (rs : List CountRule) (cs : List Body) (cpos cneg : List ℕ) (m : ℕ) (T : Task n rs cs heads pos neg gate k cpos cneg m x (B .i) (B .o)) where
         own : c < n
         own = T .low c (and-left (has x c) (not (has (B .i) c || has (B .o) c)) here)
 
-        task-in : (i′ : ℕ) → With (B .i) c i′ → Task n rs cs heads pos neg gate k cpos cneg m x i′ (B .o) (B .l)
+        task-in : (i′ : ℕ) → With (B .i) c i′ → Task n rs cs heads pos neg gate k cpos cneg m x i′ (B .o)
         task-in i′ I =
-            more n rs cs heads pos neg gate k cpos cneg m x (B .i) (B .o) (B .l) T i′ (B .o) (B .l) (with-kept (B .i) c i′ I) (λ a t. t)
+            more n rs cs heads pos neg gate k cpos cneg m x (B .i) (B .o) T i′ (B .o)
             (λ a t. ⊎-elim (λ q. subst (λ b. b < n) (sym q) own) (T .ins-low a) (with-cases (B .i) c i′ I a t))
-            (λ a t. ⊎-elim (λ q. ap (has (B .o)) q ∙ is-false (λ p. true-false (or-right (has (B .i) c) p) free)) (T .apart a) (with-cases (B .i) c i′ I a t)) (T .below)
+            (λ a t. ⊎-elim (λ q. ap (has (B .o)) q ∙ is-false (λ p. true-false (or-right (has (B .i) c) p) free)) (T .apart a) (with-cases (B .i) c i′ I a t))
 
-        task-out : (o′ : ℕ) → With (B .o) c o′ → Task n rs cs heads pos neg gate k cpos cneg m x (B .i) o′ (B .l)
+        task-out : (o′ : ℕ) → With (B .o) c o′ → Task n rs cs heads pos neg gate k cpos cneg m x (B .i) o′
         task-out o′ O =
-            more n rs cs heads pos neg gate k cpos cneg m x (B .i) (B .o) (B .l) T (B .i) o′ (B .l) (λ a t. t) (with-kept (B .o) c o′ O) (T .ins-low)
-            (λ a t. is-false (λ p. ⊎-elim (λ q. true-false (or-left (has (B .o) c) (subst (λ b. has (B .i) b ≡ true) q t)) free) (λ q. true-false q (T .apart a t)) (with-cases (B .o) c o′ O a p))) (T .below)
+            more n rs cs heads pos neg gate k cpos cneg m x (B .i) (B .o) T (B .i) o′ (T .ins-low)
+            (λ a t. is-false (λ p. ⊎-elim (λ q. true-false (or-left (has (B .o) c) (subst (λ b. has (B .i) b ≡ true) q t)) free) (λ q. true-false q (T .apart a t)) (with-cases (B .o) c o′ O a p)))
 
       pub found-sum : (cpos cneg : List ℕ) (m i′ o′ v w : ℕ) → B .clash ≡ false → With (B .i) c i′ → With (B .o) c o′
-          → Counted heads pos neg gate k cpos cneg m x i′ (B .o) (B .l) v → Counted heads pos neg gate k cpos cneg m x (B .i) o′ (B .l) w
-          → Counted heads pos neg gate k cpos cneg m x i o start (v + w)
+          → Counted heads pos neg gate k cpos cneg m x i′ (B .o) v → Counted heads pos neg gate k cpos cneg m x (B .i) o′ w
+          → Counted heads pos neg gate k cpos cneg m x i o (v + w)
       found-sum cpos cneg m i′ o′ v w f I O V₁ V₂ =
           record {
             is = λ n rs cs T.

@@ -8,7 +8,7 @@ use lib.Dec.{eqb}
 use lib.ListN.{getD}
 use Rattle.lists.specs.Lists.{all, member}
 use Rattle.asp.specs.Program.{Body, State, holds}
-use Rattle.asp.specs.LeastModel.{consequences, Closed, Inside, Least}
+use Rattle.asp.specs.LeastModel.{consequences, Closed, Inside}
 use Rattle.asp.specs.Decided.{CountRule, chosen, surely, possibly}
 use Rattle.bits.specs.Sets.{has}
 
@@ -62,10 +62,10 @@ pub record Onward (x y back j r : ℕ) : Type 0 where
   pub same : x ≡ y → r ≡ j + 1
   pub other : (x ≡ y → ⊥) → r ≡ back
 
--- The least model, from a set that lies in every closed set.
+-- A closed set that lies in every closed set that has the start: the least model, where that is nothing.
 pub record LeastBy (heads pos neg gate : List ℕ) (k : ℕ) (sure : Bool) (i o start r : ℕ) : Type 0 where
-  pub least : (rs : List CountRule) → Held rs heads pos neg gate k
-      → ((Y : State) → Closed (operator sure i o rs) Y → Inside (has start) Y) → Least (operator sure i o rs) (has r)
+  pub closed : (rs : List CountRule) → Held rs heads pos neg gate k → Closed (operator sure i o rs) (has r)
+  pub below : (rs : List CountRule) → Held rs heads pos neg gate k → (Y : State) → Closed (operator sure i o rs) Y → Inside (has start) Y → Inside (has r) Y
 
 -- Constraints.
 pub record BodyMatches (b : Body) (pos neg : ℕ) : Type 0 where

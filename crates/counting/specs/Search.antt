@@ -6,11 +6,11 @@ use mathlib.Core.Path.{_≡_}
 use Prim.Native.Nat.{ℕ, _^_, _≤_, _<_}
 use lib.ListN.{length}
 use Rattle.lists.specs.Lists.{filter, range}
-use Rattle.asp.specs.Program.{Body, State}
-use Rattle.asp.specs.LeastModel.{Closed, Inside}
+use Rattle.asp.specs.Program.{Body}
+use Rattle.asp.specs.LeastModel.{Inside}
 use Rattle.asp.specs.Decided.{CountRule, countBy}
 use Rattle.bits.specs.Sets.{has, Subset}
-use Rattle.counting.specs.Rules.{Held, HeldBodies, operator, Lawful}
+use Rattle.counting.specs.Rules.{Held, HeldBodies, Lawful}
 use Rattle.counting.specs.declared.Bounds.{Bounds}
 
 -- The atom is to be decided, and neither in nor out.
@@ -26,7 +26,7 @@ abbrev pub asks : CountRule → ℕ → Type 0
 asks r a = List·Memᴰ a (r .rule .body .neg) ⊎ ((r .free ≡ true) × (a ≡ r .rule .head))
 
 -- The masks hold the rules and constraints of n atoms; every atom that a rule asks for is to be decided.
-pub record Task (n : ℕ) (rs : List CountRule) (cs : List Body) (heads pos neg gate : List ℕ) (k : ℕ) (cpos cneg : List ℕ) (m x i o start : ℕ) : Type 0 where
+pub record Task (n : ℕ) (rs : List CountRule) (cs : List Body) (heads pos neg gate : List ℕ) (k : ℕ) (cpos cneg : List ℕ) (m x i o : ℕ) : Type 0 where
   pub held : Held rs heads pos neg gate k
   pub bodies : HeldBodies cs cpos cneg m
   pub heads-low : (r : CountRule) → List·Memᴰ r rs → r .rule .head < n
@@ -35,7 +35,6 @@ pub record Task (n : ℕ) (rs : List CountRule) (cs : List Body) (heads pos neg 
   pub low : (a : ℕ) → has x a ≡ true → a < n
   pub ins-low : (a : ℕ) → has i a ≡ true → a < n
   pub apart : (a : ℕ) → has i a ≡ true → has o a ≡ false
-  pub below : (Y : State) → Closed (operator true i o rs) Y → Inside (has start) Y
 
 -- One candidate: whether it has the atoms decided in, and whether it breaks no constraint.
 pub record Leaf (cpos cneg : List ℕ) (m i l r : ℕ) : Type 0 where
@@ -46,8 +45,8 @@ pub record Leaf (cpos cneg : List ℕ) (m i l r : ℕ) : Type 0 where
   pub is : r ≡ cond holds-in (cond obeys 1 0) 0
 
 -- With everything decided the settled state that agrees is counted, if there is one.
-pub record Last (heads pos neg gate : List ℕ) (k : ℕ) (cpos cneg : List ℕ) (m i o start r : ℕ) : Type 0 where
-  pub is : (n : ℕ) (rs : List CountRule) (cs : List Body) (x : ℕ) → Task n rs cs heads pos neg gate k cpos cneg m x i o start
+pub record Last (heads pos neg gate : List ℕ) (k : ℕ) (cpos cneg : List ℕ) (m i o r : ℕ) : Type 0 where
+  pub is : (n : ℕ) (rs : List CountRule) (cs : List Body) (x : ℕ) → Task n rs cs heads pos neg gate k cpos cneg m x i o
       → ((a : ℕ) → has x a ≡ true → (has i a || has o a) ≡ true) → r ≡ countBy n rs cs (has i) (has o)
   pub small : r ≤ 1
 
@@ -55,17 +54,17 @@ pub record Last (heads pos neg gate : List ℕ) (k : ℕ) (cpos cneg : List ℕ)
 pub record Bounded (n : ℕ) (rs : List CountRule) (cs : List Body) (heads pos neg gate : List ℕ) (k : ℕ) (cpos cneg : List ℕ) (m x i o : ℕ) (B : Bounds) : Type 0 where
   pub none : B .clash ≡ true → countBy n rs cs (has i) (has o) ≡ 0
   pub same : B .clash ≡ false → countBy n rs cs (has i) (has o) ≡ countBy n rs cs (has (B .i)) (has (B .o))
-  pub task : B .clash ≡ false → Task n rs cs heads pos neg gate k cpos cneg m x (B .i) (B .o) (B .l)
+  pub task : B .clash ≡ false → Task n rs cs heads pos neg gate k cpos cneg m x (B .i) (B .o)
 
-pub record Narrowed (heads pos neg gate : List ℕ) (k x i o start : ℕ) (B : Bounds) : Type 0 where
-  pub is : (n : ℕ) (rs : List CountRule) (cs : List Body) (cpos cneg : List ℕ) (m : ℕ) → Task n rs cs heads pos neg gate k cpos cneg m x i o start
+pub record Narrowed (heads pos neg gate : List ℕ) (k x i o : ℕ) (B : Bounds) : Type 0 where
+  pub is : (n : ℕ) (rs : List CountRule) (cs : List Body) (cpos cneg : List ℕ) (m : ℕ) → Task n rs cs heads pos neg gate k cpos cneg m x i o
       → Bounded n rs cs heads pos neg gate k cpos cneg m x i o B
   pub ins : Inside (has i) (has (B .i))
   pub outs : Inside (has o) (has (B .o))
 
 -- One round: where no state agrees, no further atom is out.
-pub record Round (heads pos neg gate : List ℕ) (k x i o start : ℕ) (B : Bounds) : Type 0 where
-  pub narrowed : Narrowed heads pos neg gate k x i o start B
+pub record Round (heads pos neg gate : List ℕ) (k x i o : ℕ) (B : Bounds) : Type 0 where
+  pub narrowed : Narrowed heads pos neg gate k x i o B
   pub grows : o ≤ B .o
   pub fits : B .o < 2 ^ 64
   pub stops : B .clash ≡ true → B .o ≡ o
@@ -76,6 +75,6 @@ pub record Member (d r : ℕ) : Type 0 where
   pub inside : has d r ≡ true
 
 -- The settled states that agree with the decisions are counted.
-pub record Counted (heads pos neg gate : List ℕ) (k : ℕ) (cpos cneg : List ℕ) (m x i o start r : ℕ) : Type 0 where
-  pub is : (n : ℕ) (rs : List CountRule) (cs : List Body) → Task n rs cs heads pos neg gate k cpos cneg m x i o start → r ≡ countBy n rs cs (has i) (has o)
+pub record Counted (heads pos neg gate : List ℕ) (k : ℕ) (cpos cneg : List ℕ) (m x i o r : ℕ) : Type 0 where
+  pub is : (n : ℕ) (rs : List CountRule) (cs : List Body) → Task n rs cs heads pos neg gate k cpos cneg m x i o → r ≡ countBy n rs cs (has i) (has o)
   pub small : r ≤ 2 ^ undecided x i o

@@ -153,29 +153,27 @@ fn last(
     m: usize,
     i: u64,
     o: u64,
-    start: u64,
 ) -> u64
     requires { ⌜ (k ≤ 128) × Low (now heads) k × Returning (now heads) (now pos) (now back) k × (m ≤ 128) ⌝ }
-    ensures { λ r. ⌜ Last (now (heads .entry)) (now (pos .entry)) (now (neg .entry)) (now (gate .entry)) k (now (cpos .entry)) (now (cneg .entry)) m i o start r ⌝ }
+    ensures { λ r. ⌜ Last (now (heads .entry)) (now (pos .entry)) (now (neg .entry)) (now (gate .entry)) k (now (cpos .entry)) (now (cneg .entry)) m i o r ⌝ }
 {
-    let l = least(heads, pos, neg, gate, back, k, true, i, o, start);
+    let l = least(heads, pos, neg, gate, back, k, true, i, o, 0);
     if intersection(l, o) != 0 {
         return 0;
     }
     leaf(cpos, cneg, m, i, l)
 }
 
-// Decisions with what follows from them: atoms that are in, atoms that are out, a set that every state that agrees has, and
-// whether no settled state agrees.
+// Decisions with what follows from them: atoms that are in, atoms that are out, and whether no settled state agrees.
 pub struct Bounds {
     pub i: u64,
     pub o: u64,
-    pub l: u64,
     pub clash: bool,
 }
 
-// One round. A settled state that agrees lies between two least models: of the rules that surely apply, and of those that
-// possibly do. So atoms of x in the first are in, and those not in the second are out. The second is asked for where i has grown.
+// One round. A settled state that agrees has what follows from i by the rules that surely apply, and lies in the least model of
+// those that possibly do. So atoms of x in the first are in, and those not in the second are out. The second is asked for where
+// i has grown.
 fn narrow(
     heads: &[u8; 128],
     pos: &[u64; 128],
@@ -186,44 +184,27 @@ fn narrow(
     x: u64,
     i: u64,
     o: u64,
-    start: u64,
     grown: bool,
 ) -> Bounds
     requires { ⌜ (k ≤ 128) × Low (now heads) k × Returning (now heads) (now pos) (now back) k ⌝ }
-    ensures { λ r. ⌜ Round (now (heads .entry)) (now (pos .entry)) (now (neg .entry)) (now (gate .entry)) k x i o start r ⌝ }
+    ensures { λ r. ⌜ Round (now (heads .entry)) (now (pos .entry)) (now (neg .entry)) (now (gate .entry)) k x i o r ⌝ }
 {
-    let l = least(heads, pos, neg, gate, back, k, true, i, o, start);
+    let l = least(heads, pos, neg, gate, back, k, true, i, o, i);
     if intersection(l, o) != 0 {
-        return Bounds {
-            i,
-            o,
-            l,
-            clash: true,
-        };
+        return Bounds { i, o, clash: true };
     }
     let ins = union(i, intersection(l, x));
     if unmoved(i, ins, grown) {
-        return Bounds {
-            i,
-            o,
-            l,
-            clash: false,
-        };
+        return Bounds { i, o, clash: false };
     }
-    let u = least(heads, pos, neg, gate, back, k, false, ins, o, l);
+    let u = least(heads, pos, neg, gate, back, k, false, ins, o, 0);
     if !subset(ins, u) {
-        return Bounds {
-            i,
-            o,
-            l,
-            clash: true,
-        };
+        return Bounds { i, o, clash: true };
     }
     let outs = union(o, difference(x, u));
     Bounds {
         i: ins,
         o: outs,
-        l,
         clash: false,
     }
 }
@@ -246,17 +227,16 @@ fn settle(
     x: u64,
     i: u64,
     o: u64,
-    start: u64,
     grown: bool,
 ) -> Bounds
     requires { ⌜ (k ≤ 128) × Low (now heads) k × Returning (now heads) (now pos) (now back) k ⌝ }
-    ensures { λ r. ⌜ Narrowed (now (heads .entry)) (now (pos .entry)) (now (neg .entry)) (now (gate .entry)) k x i o start r ⌝ }
+    ensures { λ r. ⌜ Narrowed (now (heads .entry)) (now (pos .entry)) (now (neg .entry)) (now (gate .entry)) k x i o r ⌝ }
 {
     let mut seen = o;
-    let mut b = narrow(heads, pos, neg, gate, back, k, x, i, o, start, grown);
+    let mut b = narrow(heads, pos, neg, gate, back, k, x, i, o, grown);
     while b.o != seen {
         seen = b.o;
-        b = narrow(heads, pos, neg, gate, back, k, x, b.i, b.o, b.l, false);
+        b = narrow(heads, pos, neg, gate, back, k, x, b.i, b.o, false);
     }
     b
 }
@@ -276,7 +256,7 @@ fn lowest(d: u64) -> usize
     0
 }
 
-// What it settles to decide an atom, 0 where it is not in d: how many atoms its being out adds to the lower bound or its being
+// What it settles to decide an atom, 0 where it is not in d: how many atoms its being out adds to the lower bound l or its being
 // in takes from the upper bound u, and more than any number of atoms where one of the two is refuted.
 fn weight(
     heads: &[u8; 128],
@@ -298,12 +278,12 @@ fn weight(
         return 0;
     }
     let outs = with(o, a);
-    let more = least(heads, pos, neg, gate, back, k, true, i, outs, l);
+    let more = least(heads, pos, neg, gate, back, k, true, i, outs, i);
     if intersection(more, outs) != 0 {
         return 65;
     }
     let ins = with(i, a);
-    let rest = least(heads, pos, neg, gate, back, k, false, ins, o, l);
+    let rest = least(heads, pos, neg, gate, back, k, false, ins, o, 0);
     if !subset(ins, rest) {
         return 65;
     }
@@ -342,12 +322,12 @@ fn heaviest(
     d: u64,
     i: u64,
     o: u64,
-    l: u64,
 ) -> usize
     requires { ⌜ (k ≤ 128) × Low (now heads) k × Returning (now heads) (now pos) (now back) k × (d ≡ 0 → ⊥) ⌝ }
     ensures { λ r. ⌜ Member d r ⌝ }
 {
-    let u = least(heads, pos, neg, gate, back, k, false, i, o, l);
+    let l = least(heads, pos, neg, gate, back, k, true, i, o, i);
+    let u = least(heads, pos, neg, gate, back, k, false, i, o, 0);
     let mut best = lowest(d);
     let mut most: u32 = 0;
     let mut a = 0;
@@ -371,7 +351,6 @@ fn pick(
     d: u64,
     i: u64,
     o: u64,
-    l: u64,
 ) -> usize
     requires { ⌜ (k ≤ 128) × Low (now heads) k × Returning (now heads) (now pos) (now back) k × (d ≡ 0 → ⊥) ⌝ }
     ensures { λ r. ⌜ Member d r ⌝ }
@@ -379,7 +358,7 @@ fn pick(
     if size(d) <= 8 {
         return lowest(d);
     }
-    heaviest(heads, pos, neg, gate, back, k, d, i, o, l)
+    heaviest(heads, pos, neg, gate, back, k, d, i, o)
 }
 
 // The number of settled states that have i and nothing of o, where the atoms of x are to be decided.
@@ -396,24 +375,22 @@ pub fn branch(
     x: u64,
     i: u64,
     o: u64,
-    start: u64,
     grown: bool,
 ) -> u64
     requires { ⌜ (k ≤ 128) × Low (now heads) k × Returning (now heads) (now pos) (now back) k × (m ≤ 128) × (undecided x i o ≤ 16) ⌝ }
-    ensures { λ r. ⌜ Counted (now (heads .entry)) (now (pos .entry)) (now (neg .entry)) (now (gate .entry)) k (now (cpos .entry)) (now (cneg .entry)) m x i o start r ⌝ }
+    ensures { λ r. ⌜ Counted (now (heads .entry)) (now (pos .entry)) (now (neg .entry)) (now (gate .entry)) k (now (cpos .entry)) (now (cneg .entry)) m x i o r ⌝ }
 {
-    let b = settle(heads, pos, neg, gate, back, k, x, i, o, start, grown);
+    let b = settle(heads, pos, neg, gate, back, k, x, i, o, grown);
     if b.clash {
         return 0;
     }
     let ins = b.i;
     let outs = b.o;
-    let l = b.l;
     let d = difference(x, union(ins, outs));
     if d == 0 {
-        return last(heads, pos, neg, gate, back, k, cpos, cneg, m, ins, outs, l);
+        return last(heads, pos, neg, gate, back, k, cpos, cneg, m, ins, outs);
     }
-    let c = pick(heads, pos, neg, gate, back, k, d, ins, outs, l);
+    let c = pick(heads, pos, neg, gate, back, k, d, ins, outs);
     let inside = branch(
         heads,
         pos,
@@ -427,7 +404,6 @@ pub fn branch(
         x,
         with(ins, c),
         outs,
-        l,
         true,
     );
     let outside = branch(
@@ -443,7 +419,6 @@ pub fn branch(
         x,
         ins,
         with(outs, c),
-        l,
         false,
     );
     inside + outside

@@ -64,7 +64,7 @@ branch-last-requires t c κs = search needs
 branch-returns-2 : (t : ℕ) → branch-lts.Need-returns-2 (called t) (branch-at t) branch.Post
 branch-returns-2 t c =
     let a = c .before .before .before .before in
-    found-last _ _ _ _ _ _ _ _ _ _ (a .before .settle .ensures) _ _ (c .before .before .before .union .ensures) (c .before .before .difference .ensures) _ _ _ _ (a .if1 .left) (c .before .if2 .taken) (c .last .ensures)
+    found-last _ _ _ _ _ _ _ _ _ (a .before .settle .ensures) _ _ (c .before .before .before .union .ensures) (c .before .before .difference .ensures) _ _ _ _ (a .if1 .left) (c .before .if2 .taken) (c .last .ensures)
 
 branch-pick-requires : (t : ℕ) → branch-lts.Need-pick-requires (called t) (branch-at t) branch.Post
 branch-pick-requires t c κs = search needs
@@ -75,7 +75,7 @@ branch-with-requires t c κs = c .pick .ensures .low
 branch-branch-requires : (t : ℕ) → branch-lts.Need-branch-requires (called t) (branch-at t) branch.Post
 branch-branch-requires t c κs =
     let a = c .before .before .before in
-    let less = fewer-in _ _ _ _ _ _ _ _ _ _ (a .before .before .before .settle .ensures) _ _ (a .before .union .ensures) (a .difference .ensures) _ (c .before .pick .ensures) _ (c .with .ensures) in
+    let less = fewer-in _ _ _ _ _ _ _ _ _ (a .before .before .before .settle .ensures) _ _ (a .before .union .ensures) (a .difference .ensures) _ (c .before .pick .ensures) _ (c .with .ensures) in
     let pre = a .before .before .before .before .pre in
     (falls-below _ _ _ less (pre .0), (pre .1 .0, pre .1 .1, pre .1 .2, pre .1 .3, stays-few _ _ less (pre .1 .4)))
 
@@ -85,14 +85,14 @@ branch-with-requires-2 t c κs = c .before .before .pick .ensures .low
 branch-branch-requires-2 : (t : ℕ) → branch-lts.Need-branch-requires-2 (called t) (branch-at t) branch.Post
 branch-branch-requires-2 t c κs =
     let a = c .before .before .before .before .before in
-    let less = fewer-out _ _ _ _ _ _ _ _ _ _ (a .before .before .before .settle .ensures) _ _ (a .before .union .ensures) (a .difference .ensures) _ (c .before .before .before .pick .ensures) _ (c .with2 .ensures) in
+    let less = fewer-out _ _ _ _ _ _ _ _ _ (a .before .before .before .settle .ensures) _ _ (a .before .union .ensures) (a .difference .ensures) _ (c .before .before .before .pick .ensures) _ (c .with2 .ensures) in
     let pre = a .before .before .before .before .pre in
     (falls-below _ _ _ less (pre .0), (pre .1 .0, pre .1 .1, pre .1 .2, pre .1 .3, stays-few _ _ less (pre .1 .4)))
 
 branch-returns-3 : (t : ℕ) → branch-lts.Need-returns-3 (called t) (branch-at t) branch.Post
 branch-returns-3 t c =
     let a = c .before .before .before .before .before .before in
-    found-sum _ _ _ _ _ _ _ _ _ _ (a .before .before .before .settle .ensures) _ _ (a .before .union .ensures) (a .difference .ensures) _ (c .before .before .before .before .pick .ensures)
+    found-sum _ _ _ _ _ _ _ _ _ (a .before .before .before .settle .ensures) _ _ (a .before .union .ensures) (a .difference .ensures) _ (c .before .before .before .before .pick .ensures)
     _ _ _ _ _ _ _ (a .before .before .if1 .left) (c .before .before .before .with .ensures) (c .before .with2 .ensures) (c .before .before .branch .ensures) (c .branch2 .ensures)
 
 branch-add-result : (t : ℕ) → branch-lts.Need-add-result (called t) (branch-at t) branch.Post

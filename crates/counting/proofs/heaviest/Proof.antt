@@ -14,6 +14,9 @@ abbrev μ-loop : tie.MeasureT-loop
 least-requires : tie.Need-least-requires Inv-loop μ-loop
 least-requires c κs = search needs
 
+least-requires-2 : tie.Need-least-requires-2 Inv-loop μ-loop
+least-requires-2 c κs = search needs
+
 lowest-requires : tie.Need-lowest-requires Inv-loop μ-loop
 lowest-requires c κs = search needs
 
@@ -48,6 +51,7 @@ heaviest-spec =
     Inv-loop
     μ-loop
     least-requires
+    least-requires-2
     lowest-requires
     loop-holds
     weight-requires

@@ -35,7 +35,7 @@ subset-requires c κs = search needs
 returns-3 : tie.Need-returns-3
 returns-3 c =
     let a = c .before .before .before .before .before in
-    round-lacks _ _ _ _ _ _ _ _ _ _ (a .before .before .before .before .least .ensures) (search needs) _ (a .before .before .before .intersection .ensures) (a .before .before .if1 .left) _ _ (a .before .intersection2 .ensures) (a .union .ensures)
+    round-lacks _ _ _ _ _ _ _ _ _ (a .before .before .before .before .least .ensures) (search needs) _ (a .before .before .before .intersection .ensures) (a .before .before .if1 .left) _ _ (a .before .intersection2 .ensures) (a .union .ensures)
     _ (c .before .before .least2 .ensures) _ (c .before .subset .ensures) (not-true _ (c .if3 .taken))
 
 difference-requires : tie.Need-difference-requires
@@ -47,7 +47,7 @@ union-requires-2 c κs = search needs
 returns-4 : tie.Need-returns-4
 returns-4 c =
     let a = c .before .before .before .before .before .before .before in
-    round-goes _ _ _ _ _ _ _ _ _ _ (a .before .before .before .before .least .ensures) (search needs) _ (a .before .before .before .intersection .ensures) (a .before .before .if1 .left) _ _ (a .before .intersection2 .ensures) (a .union .ensures)
+    round-goes _ _ _ _ _ _ _ _ _ (a .before .before .before .before .least .ensures) (search needs) _ (a .before .before .before .intersection .ensures) (a .before .before .if1 .left) _ _ (a .before .intersection2 .ensures) (a .union .ensures)
     _ (c .before .before .before .before .least2 .ensures) _ (c .before .before .before .subset .ensures) _ _ (not-false _ (c .before .before .if3 .left)) (c .before .difference .ensures) (c .union2 .ensures) (search needs)
 
 pub narrow-spec : {M : Type 1} → statement M

@@ -7,10 +7,10 @@ use Rattle.counting.proofs.settle.Statement.{statement}
 use Rattle.counting.proofs.settle.Tie as tie
 
 abbrev Inv-loop : tie.InvT-loop
-Inv-loop heads pos neg gate back k x i o start grown seen₀ b₀ seen b = Settling heads pos neg gate k x i o start seen b
+Inv-loop heads pos neg gate back k x i o grown seen₀ b₀ seen b = Settling heads pos neg gate k x i o seen b
 
 abbrev μ-loop : tie.MeasureT-loop
-μ-loop heads pos neg gate back k x i o start grown seen₀ b₀ seen b = 18446744073709551616 - seen
+μ-loop heads pos neg gate back k x i o grown seen₀ b₀ seen b = 18446744073709551616 - seen
 
 narrow-requires : tie.Need-narrow-requires Inv-loop μ-loop
 narrow-requires c κs = search needs
