@@ -1,4 +1,4 @@
-// Writing into a lent buffer: a store past its end does nothing, so that a dry run on an empty buffer tells the length.
+// Writing into a lent buffer: a store past its end does nothing.
 ghost use mathlib.Core.List.{[], _∷_};
 ghost use Prim.Native.Nat.{_<_};
 ghost use Rattle.writer.specs.Wrote.{Wrote};

@@ -45,13 +45,18 @@ array-read-component-found c = search needs
 
 component-found-requires : tie.Need-component-found-requires Inv-loop μ-loop
 component-found-requires c κs =
-    let pre = c .before .before .before .before .before .before .before .before .before .before .before .pre in
-    (pre .1, omega arith, c .before .before .before .before .before .before .component-sizes .ensures .size _ (omega arith), component-few _ _ _ _ (pre .2) (pre .3) (omega arith), pre .4, below-64 _ _ (pre .1) (pre .5), entries-gathered (c .before .before .before .before .before .before .before .before .before .before .before .args .q .now) _ (c .before .before .before .gather .ensures))
+    let at-gather = c .before .before .before in
+    let at-component-sizes = at-gather .before .before .before in
+    let at-pre = at-component-sizes .before .before .before .before .before in
+    let pre = at-pre .pre in
+    (pre .1, omega arith, at-component-sizes .component-sizes .ensures .size _ (omega arith), component-few _ _ _ _ (pre .2) (pre .3) (omega arith), pre .4, below-64 _ _ (pre .1) (pre .5), entries-gathered (at-pre .args .q .now) _ (at-gather .gather .ensures))
 
 returns : tie.Need-returns Inv-loop μ-loop
 returns c =
-    let pre = c .before .before .before .before .before .before .before .before .before .before .before .before .before .pre in
-    passes-fails _ _ _ (pre .0) _ _ _ (c .before .before .before .before .before .before .before .before .before .before .edges .ensures) (pre .2) _ _ (c .before .component-found .ensures) (search (needs, not-true))
+    let at-edges = c .before .before .before .before .before .before .before .before .before .before in
+    let at-pre = at-edges .before .before .before in
+    let pre = at-pre .pre in
+    passes-fails _ _ _ (pre .0) _ _ _ (at-edges .edges .ensures) (pre .2) _ _ (c .before .component-found .ensures) (search (needs, not-true))
 
 add-c : tie.Need-add-c Inv-loop μ-loop
 add-c c = search needs
@@ -61,8 +66,11 @@ loop-less c = search needs
 
 loop-again : tie.Need-loop-again Inv-loop μ-loop
 loop-again c =
-    let pre = c .before .before .before .before .before .before .before .before .before .before .before .before .before .pre in
-    passes-turn _ _ _ (pre .0) _ _ _ (c .before .before .before .before .before .before .before .before .before .before .edges .ensures) (pre .2) _ _ (c .before .component-found .ensures) (c .before .before .before .before .loop .inv) (search (needs, not-false))
+    let at-loop = c .before .before .before .before in
+    let at-edges = at-loop .before .before .before .before .before .before in
+    let at-pre = at-edges .before .before .before in
+    let pre = at-pre .pre in
+    passes-turn _ _ _ (pre .0) _ _ _ (at-edges .edges .ensures) (pre .2) _ _ (c .before .component-found .ensures) (at-loop .loop .inv) (search (needs, not-false))
 
 returns-2 : tie.Need-returns-2 Inv-loop μ-loop
 returns-2 c = search (needs, passes-end)

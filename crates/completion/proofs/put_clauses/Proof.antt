@@ -12,8 +12,11 @@ put-copies-requires c κs = search needs
 
 put-constraints-requires : tie.Need-put-constraints-requires
 put-constraints-requires c κs =
-    let R = c .before .before .before .before .before .before .before .before .before .before .before .before .before .pre in
-    (R .walk, c .before .before .before .before .before .before .before .before .before .before .index-of .ensures, R .atoms, R .records, all-room _ _ _ _ _ R _ _ _ (c .before .before .before .before .put-copies .ensures))
+    let at-put-copies = c .before .before .before .before in
+    let at-index-of = at-put-copies .before .before .before .before .before .before in
+    let at-pre = at-index-of .before .before .before in
+    let R = at-pre .pre in
+    (R .walk, at-index-of .index-of .ensures, R .atoms, R .records, all-room _ _ _ _ _ R _ _ _ (at-put-copies .put-copies .ensures))
 
 same-length : tie.Need-same-length
 same-length c = search needs

@@ -29,11 +29,15 @@ next-requires c κs = search (needs, copies-fresh)
 
 put-copy-requires : tie.Need-put-copy-requires Inv-loop μ-loop
 put-copy-requires c κs =
-    let pre = c .before .before .before .before .before .before .before .before .before .pre in
+    let at-next = c .before .before .before in
+    let at-loop-test = at-next .before in
+    let at-loop = at-loop-test .before in
+    let at-pre = at-loop .before .before .before .before in
+    let pre = at-pre .pre in
     let R = pre .0 in
-    let L = c .before .before .before .before .before .loop .inv in
-    let lt = c .before .before .before .before .loop-test .taken in
-    let M = c .before .before .before .next .ensures in
+    let L = at-loop .loop .inv in
+    let lt = at-loop-test .loop-test .taken in
+    let M = at-next .next .ensures in
     (pre .1, R .atoms, R .records, copies-low _ _ _ _ _ R _ _ _ _ _ L lt _ M, copies-var _ _ _ _ _ R _ _ _ _ _ L lt _ M, copies-rule _ _ _ _ _ R _ _ _ _ _ L lt, copies-room _ _ _ _ _ R _ _ _ _ _ L lt _ M)
 
 add-i : tie.Need-add-i Inv-loop μ-loop

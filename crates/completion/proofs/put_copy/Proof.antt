@@ -15,9 +15,12 @@ put-first-requires c κs = search (needs, copy-first, copy-numbers)
 
 put-rules-requires : tie.Need-put-rules-requires
 put-rules-requires c κs =
-    let pre = c .before .before .before .before .before .before .before .before .pre in
-    let C = c .before .before .before .before .before .before .choose .ensures in
-    (C .placed, pre .1, copy-few _ _ _ _ _ _ C (pre .2), pre .3, pre .4, copy-numbers _ _ _ _ _ _ C (pre .2) _ (pre .5), copy-second _ _ _ _ _ _ C _ _ (pre .6) _ _ _ (c .before .before .before .put-first .ensures))
+    let at-put-first = c .before .before .before in
+    let at-choose = at-put-first .before .before .before in
+    let at-pre = at-choose .before .before in
+    let pre = at-pre .pre in
+    let C = at-choose .choose .ensures in
+    (C .placed, pre .1, copy-few _ _ _ _ _ _ C (pre .2), pre .3, pre .4, copy-numbers _ _ _ _ _ _ C (pre .2) _ (pre .5), copy-second _ _ _ _ _ _ C _ _ (pre .6) _ _ _ (at-put-first .put-first .ensures))
 
 cast-t19 : tie.Need-cast-t19
 cast-t19 c = search needs

@@ -15,10 +15,17 @@ component-sizes-requires : tie.Need-component-sizes-requires
 component-sizes-requires c κs = sizes-room _ _ _ (c .before .before .before .analyse .ensures) (c .before .before .if1 .left) (search needs)
 
 blocks-length-requires : tie.Need-blocks-length-requires
-blocks-length-requires c κs = (sizes-room _ _ _ (c .before .before .before .before .before .before .analyse .ensures) (c .before .before .before .before .before .if1 .left) (search needs) .0, c .before .before .component-sizes .ensures .few)
+blocks-length-requires c κs =
+    let at-if1 = c .before .before .before .before .before in
+    let at-analyse = at-if1 .before in
+    (sizes-room _ _ _ (at-analyse .analyse .ensures) (at-if1 .if1 .left) (search needs) .0, c .before .before .component-sizes .ensures .few)
 
 add-if2 : tie.Need-add-if2
-add-if2 c = omega (arith, entries-few _ _ _ (c .before .before .before .before .before .before .before .analyse .ensures) (c .before .before .before .before .before .before .if1 .left) _ _ (c .before .before .before .component-sizes .ensures) (c .blocks-length .ensures) (search needs) (search needs))
+add-if2 c =
+    let at-component-sizes = c .before .before .before in
+    let at-if1 = at-component-sizes .before .before .before in
+    let at-analyse = at-if1 .before in
+    omega (arith, entries-few _ _ _ (at-analyse .analyse .ensures) (at-if1 .if1 .left) _ _ (at-component-sizes .component-sizes .ensures) (c .blocks-length .ensures) (search needs) (search needs))
 
 returns-2 : tie.Need-returns-2
 returns-2 c = search (needs, default-full)
@@ -28,9 +35,13 @@ put-header-requires c κs = search needs
 
 put-blocks-requires : tie.Need-put-blocks-requires
 put-blocks-requires c κs =
-    let room = sizes-room _ _ _ (c .before .before .before .before .before .before .before .before .before .before .before .before .before .before .before .analyse .ensures) (c .before .before .before .before .before .before .before .before .before .before .before .before .before .before .if1 .left) (search needs) in
-    let few = entries-short _ _ _ (c .before .before .before .before .before .before .before .before .before .before .before .before .before .before .before .analyse .ensures) (c .before .before .before .before .before .before .before .before .before .before .before .before .before .before .if1 .left) (search needs) (search needs) in
-    (room .0, room .1, c .before .before .before .before .before .before .before .before .before .before .before .component-sizes .ensures, omega (arith, c .before .before .before .before .before .put-header .ensures .moved))
+    let at-put-header = c .before .before .before .before .before in
+    let at-component-sizes = at-put-header .before .before .before .before .before .before in
+    let at-if1 = at-component-sizes .before .before .before in
+    let at-analyse = at-if1 .before in
+    let room = sizes-room _ _ _ (at-analyse .analyse .ensures) (at-if1 .if1 .left) (search needs) in
+    let few = entries-short _ _ _ (at-analyse .analyse .ensures) (at-if1 .if1 .left) (search needs) (search needs) in
+    (room .0, room .1, at-component-sizes .component-sizes .ensures, omega (arith, at-put-header .put-header .ensures .moved))
 
 same-length : tie.Need-same-length
 same-length c = search needs

@@ -22,8 +22,12 @@ returns-2 c = search (needs, not-true, examined-form)
 
 passes-requires : tie.Need-passes-requires
 passes-requires c κs =
-    let pre = c .before .before .before .before .before .before .before .before .before .pre in
-    passes-ready _ _ _ _ (c .before .before .before .before .before .before .analyse .ensures) (c .before .before .before .before .if1 .left) _ (c .before .before .before .sequence-fits .ensures) (search (needs, not-false)) (pre .0) (pre .1)
+    let at-sequence-fits = c .before .before .before in
+    let at-if1 = at-sequence-fits .before in
+    let at-analyse = at-if1 .before .before in
+    let at-pre = at-analyse .before .before .before in
+    let pre = at-pre .pre in
+    passes-ready _ _ _ _ (at-analyse .analyse .ensures) (at-if1 .if1 .left) _ (at-sequence-fits .sequence-fits .ensures) (search (needs, not-false)) (pre .0) (pre .1)
 
 refused-requires-2 : tie.Need-refused-requires-2
 refused-requires-2 c κs = search needs
@@ -33,7 +37,10 @@ returns-3 c = search (needs, not-true, not-false, examined-chains)
 
 returns-4 : tie.Need-returns-4
 returns-4 c =
-    examined-passed _ _ _ _ (c .before .before .before .before .before .before .before .before .analyse .ensures) (c .before .before .before .before .before .before .if1 .left) _ (c .before .before .before .before .before .sequence-fits .ensures) (search (needs, not-false)) _ (c .before .passes .ensures) (search (needs, not-false))
+    let at-sequence-fits = c .before .before .before .before .before in
+    let at-if1 = at-sequence-fits .before in
+    let at-analyse = at-if1 .before .before in
+    examined-passed _ _ _ _ (at-analyse .analyse .ensures) (at-if1 .if1 .left) _ (at-sequence-fits .sequence-fits .ensures) (search (needs, not-false)) _ (c .before .passes .ensures) (search (needs, not-false))
 
 pub examine-spec : {M : Type 1} → statement M
 examine-spec =

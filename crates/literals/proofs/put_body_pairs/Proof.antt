@@ -49,7 +49,12 @@ part-put-pairs-end-2 : tie.Need-part-put-pairs-end-2
 part-put-pairs-end-2 c = search needs
 
 put-pairs-requires-2 : tie.Need-put-pairs-requires-2
-put-pairs-requires-2 c κs = (search (needs, neg-low), search needs, search needs, pairs-second _ _ _ _ _ (c .before .before .before .before .before .before .before .byte-at .ensures) (c .before .before .before .before .before .before .byte-at2 .ensures) _ _ _ _ _ (c .before .before .before .before .before .before .before .before .before .pre .4) (c .before .before .before .put-pairs .ensures))
+put-pairs-requires-2 c κs =
+    let at-put-pairs = c .before .before .before in
+    let at-byte-at2 = at-put-pairs .before .before .before in
+    let at-byte-at = at-byte-at2 .before in
+    let at-pre = at-byte-at .before .before in
+    (search (needs, neg-low), search needs, search needs, pairs-second _ _ _ _ _ (at-byte-at .byte-at .ensures) (at-byte-at2 .byte-at2 .ensures) _ _ _ _ _ (at-pre .pre .4) (at-put-pairs .put-pairs .ensures))
 
 same-length : tie.Need-same-length
 same-length c = search needs

@@ -14,7 +14,11 @@ put-plain-requires : tie.Need-put-plain-requires
 put-plain-requires c κs = (search (needs, rule-third), search needs)
 
 put-back-requires : tie.Need-put-back-requires
-put-back-requires c κs = (search needs, search needs, search needs, rule-fourth _ _ _ _ _ _ _ (c .before .before .before .before .before .before .before .before .before .before .before .pre .5) (c .before .before .before .before .before .before .before .before .put-two .ensures) _ _ (c .before .before .before .before .before .put-body-pairs .ensures) _ _ (c .before .before .put-plain .ensures))
+put-back-requires c κs =
+    let at-put-body-pairs = c .before .before .before .before .before in
+    let at-put-two = at-put-body-pairs .before .before .before in
+    let at-pre = at-put-two .before .before .before in
+    (search needs, search needs, search needs, rule-fourth _ _ _ _ _ _ _ (at-pre .pre .5) (at-put-two .put-two .ensures) _ _ (at-put-body-pairs .put-body-pairs .ensures) _ _ (c .before .before .put-plain .ensures))
 
 same-length : tie.Need-same-length
 same-length c = search needs

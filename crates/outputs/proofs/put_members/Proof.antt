@@ -26,10 +26,16 @@ put-named-requires c κs =
     (omega arith, omega (arith, members-size (c .before .before .before .before .args .names .now) (c .before .before .before .before .args .n) (c .before .before .before .before .args .c) (c .before .before .loop .a) l))
 
 add-a : tie.Need-add-a Inv-loop μ-loop
-add-a c = omega (arith, members-some _ _ _ _ _ _ _ _ _ (c .before .before .before .before .before .loop .inv) (c .before .before .before .before .before .before .before .pre .3) (omega arith))
+add-a c =
+    let at-loop = c .before .before .before .before .before in
+    let at-pre = at-loop .before .before in
+    omega (arith, members-some _ _ _ _ _ _ _ _ _ (at-loop .loop .inv) (at-pre .pre .3) (omega arith))
 
 loop-less : tie.Need-loop-less Inv-loop μ-loop
-loop-less c = omega (arith, members-some _ _ _ _ _ _ _ _ _ (c .before .before .before .before .before .loop .inv) (c .before .before .before .before .before .before .before .pre .3) (omega arith))
+loop-less c =
+    let at-loop = c .before .before .before .before .before in
+    let at-pre = at-loop .before .before in
+    omega (arith, members-some _ _ _ _ _ _ _ _ _ (at-loop .loop .inv) (at-pre .pre .3) (omega arith))
 
 loop-again : tie.Need-loop-again Inv-loop μ-loop
 loop-again c = search (needs, left-turn, members-next, members-some)

@@ -64,7 +64,14 @@ part-put-atoms-end-2 : tie.Need-part-put-atoms-end-2
 part-put-atoms-end-2 c = search needs
 
 put-atoms-requires-2 : tie.Need-put-atoms-requires-2
-put-atoms-requires-2 c κs = (search (needs, neg-low), middle-room _ _ _ _ (c .before .before .before .before .before .before .before .before .before .before .before .before .before .before .before .before .before .before .before .pre .0) _ _ (c .before .before .before .before .before .before .before .before .before .before .before .before .before .before .before .before .byte-at .ensures) (c .before .before .before .before .before .before .before .before .before .before .before .before .before .before .before .byte-at2 .ensures) _ _ _ _ (c .before .before .before .before .before .before .before .before .before .before .before .before .before .before .before .before .before .before .before .pre .2) (c .before .before .before .before .before .before .before .before .before .before .before .before .before .put-word .ensures) _ _ (c .before .before .before .before .before .before .before .before .before .put-word2 .ensures) _ _ (c .before .before .before .before .put-atoms .ensures))
+put-atoms-requires-2 c κs =
+    let at-put-atoms = c .before .before .before .before in
+    let at-put-word2 = at-put-atoms .before .before .before .before .before in
+    let at-put-word = at-put-word2 .before .before .before .before in
+    let at-byte-at2 = at-put-word .before .before in
+    let at-byte-at = at-byte-at2 .before in
+    let at-pre = at-byte-at .before .before .before in
+    (search (needs, neg-low), middle-room _ _ _ _ (at-pre .pre .0) _ _ (at-byte-at .byte-at .ensures) (at-byte-at2 .byte-at2 .ensures) _ _ _ _ (at-pre .pre .2) (at-put-word .put-word .ensures) _ _ (at-put-word2 .put-word2 .ensures) _ _ (at-put-atoms .put-atoms .ensures))
 
 same-length : tie.Need-same-length
 same-length c = search needs

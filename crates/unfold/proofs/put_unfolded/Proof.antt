@@ -21,8 +21,12 @@ put-copies-requires c κs = search (needs, first-room)
 
 put-constraints-requires : tie.Need-put-constraints-requires
 put-constraints-requires c κs =
-    let R = c .before .before .before .before .before .before .before .before .before .before .before .before .before .before .before .before .before .before .before .pre in
-    (R .walk, c .before .before .before .before .before .before .before .before .before .before .before .before .before .before .before .index-of .ensures, R .atoms, R .records, behind-room _ _ _ _ _ R _ _ _ (c .before .before .before .before .before .before .before .before .before .before .before .put-word .ensures) _ _ (c .before .before .before .before .before .put-copies .ensures))
+    let at-put-copies = c .before .before .before .before .before in
+    let at-put-word = at-put-copies .before .before .before .before .before .before in
+    let at-index-of = at-put-word .before .before .before .before in
+    let at-pre = at-index-of .before .before .before .before in
+    let R = at-pre .pre in
+    (R .walk, at-index-of .index-of .ensures, R .atoms, R .records, behind-room _ _ _ _ _ R _ _ _ (at-put-word .put-word .ensures) _ _ (at-put-copies .put-copies .ensures))
 
 same-length : tie.Need-same-length
 same-length c = search needs
