@@ -209,6 +209,7 @@ fn narrow(
     }
 }
 
+// Is everything that is in as it was when the upper bound was last asked for?
 fn unmoved(a: u64, b: u64, grown: bool) -> bool {
     if grown {
         return false;

@@ -62,6 +62,7 @@ pub fn families() -> Vec<(&'static str, Vec<Sheet>)> {
         ("last of 16 decides, 100 idle rules", vec![Sheet::new(64, last_decides_idle())]),
         ("last of 16 decides, others heavier", vec![Sheet::new(64, twice(last_decides_light()))]),
         ("last of 16 decides, others heavier, 68 idle rules", vec![Sheet::new(64, last_decides_light_idle())]),
+        ("worst found", vec![Sheet::new(64, hard())]),
     ]
 }
 
@@ -133,7 +134,7 @@ fn last_decides_light() -> Vec<Record> {
     records
 }
 
-/// Both: the idle rules of the component, and more atoms that hang on the others. The worst sheet found.
+/// Both: the idle rules of the component, and more atoms that hang on the others.
 fn last_decides_light_idle() -> Vec<Record> {
     let others: Vec<u8> = (0..15).collect();
     let mut records = last_decides_idle();
@@ -141,6 +142,16 @@ fn last_decides_light_idle() -> Vec<Record> {
     records.push(rule(31, &[30], &others));
     records.extend((31..63).map(|atom| rule(atom + 1, &[atom], &[])));
     records
+}
+
+/// The worst sheet found by a search: few decisions settle others. A line has a head, positive atoms and negative atoms.
+fn hard() -> Vec<Record> {
+    let atoms = |list: &str| list.split_whitespace().map(|atom| atom.parse().expect("an atom")).collect::<Vec<u8>>();
+    let record = |line: &str| {
+        let lists: Vec<Vec<u8>> = line.split(':').map(atoms).collect();
+        rule(lists[0][0], &lists[1], &lists[2])
+    };
+    include_str!("hard.txt").lines().map(record).collect()
 }
 
 /// The records with two atoms exchanged.
