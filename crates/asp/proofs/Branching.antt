@@ -124,13 +124,13 @@ module _ (n : ℕ) (rs : List CountRule) (low : (r : CountRule) → List·Memᴰ
         (S .lawful)
 
 -- Decisions.
-agree-in : (n : ℕ) (i o X : State) → agrees n i o X ≡ true → (a : ℕ) → a < n → i a ≡ true → X a ≡ true
+pub agree-in : (n : ℕ) (i o X : State) → agrees n i o X ≡ true → (a : ℕ) → a < n → i a ≡ true → X a ≡ true
 unfolding agrees
 agree-in n i o X e a l t =
     let u = all-at (λ a. (not (i a) || X a) && (not (o a) || not (X a))) (range 0 n) e a (range-in 0 n a (omega arith) (omega arith)) in
     ⊎-elim (λ f. absurd (true-false t (not-elim f))) (λ x. x) (or-cases (not (i a)) (X a) (and-left (not (i a) || X a) (not (o a) || not (X a)) u))
 
-agree-out : (n : ℕ) (i o X : State) → agrees n i o X ≡ true → (a : ℕ) → a < n → o a ≡ true → X a ≡ false
+pub agree-out : (n : ℕ) (i o X : State) → agrees n i o X ≡ true → (a : ℕ) → a < n → o a ≡ true → X a ≡ false
 unfolding agrees
 agree-out n i o X e a l t =
     let u = all-at (λ a. (not (i a) || X a) && (not (o a) || not (X a))) (range 0 n) e a (range-in 0 n a (omega arith) (omega arith)) in
@@ -151,7 +151,7 @@ module _ (n : ℕ) (rs : List CountRule) (low : (r : CountRule) → List·Memᴰ
   Fits X = SettledBy n rs low cs X
 
   -- A rule that surely applies does, and one that does possibly does.
-  sure-applies : (X : State) → agrees n i o X ≡ true → (r : CountRule) → List·Memᴰ r rs → surely i o r ≡ true → applies X r ≡ true
+  pub sure-applies : (X : State) → agrees n i o X ≡ true → (r : CountRule) → List·Memᴰ r rs → surely i o r ≡ true → applies X r ≡ true
   unfolding outside
   sure-applies X g r m e =
       let neg = r .rule .body .neg in
@@ -183,7 +183,7 @@ module _ (n : ℕ) (rs : List CountRule) (low : (r : CountRule) → List·Memᴰ
   counted-out X m e =
       (settled-by-out n rs low cs X (states-within n X m) (and-left (isSettledBy n rs cs X) (agrees n i o X) e), and-right (isSettledBy n rs cs X) (agrees n i o X) e)
 
-  none-counted : ((X : State) → Fits X → agrees n i o X ≡ true → ⊥) → countBy n rs cs i o ≡ 0
+  pub none-counted : ((X : State) → Fits X → agrees n i o X ≡ true → ⊥) → countBy n rs cs i o ≡ 0
   unfolding countBy
   none-counted h = ap length (filter-none (λ X. isSettledBy n rs cs X && agrees n i o X) (states n) (λ X m. is-false (λ e. let u = counted-out X m e in h X (u .0) (u .1))))
 

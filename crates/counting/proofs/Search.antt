@@ -12,14 +12,14 @@ use lib.ListN.{length}
 use lib.Pow.{pow-pos, pow-mono}
 use Rattle.lists.specs.Lists.{all, range}
 use Rattle.lists.proofs.Bools.{by-bool, true-false, is-true, is-false, bool-ext, and-intro, and-left, and-right, or-cases, or-left, or-right, not-intro, not-elim}
-use Rattle.lists.proofs.Members.{all-at, all-intro, all-fails, filter-cong, filter-none, range-in, range-out}
+use Rattle.lists.proofs.Members.{all-at, all-intro, all-fails, filter-cong, range-in, range-out}
 use Rattle.lists.proofs.Nodup.{filter-lt, nodup-range}
 use Rattle.asp.specs.Program.{Body, State, outside, holds}
 use Rattle.asp.specs.LeastModel.{Inside, Least}
 use Rattle.asp.specs.Count.{with, states}
 use Rattle.asp.specs.Decided.{CountRule, applies, surely, possibly, isSettledBy, agrees, countBy}
 use Rattle.asp.proofs.Counted.{states-within}
-use Rattle.asp.proofs.Branching.{SettledBy, settled-by-out, fired-out, chosen-more, upper-inside, agree-make, clash-lower, clash-upper, leaf-one, leaf-unlawful, count-split}
+use Rattle.asp.proofs.Branching.{SettledBy, settled-by-out, fired-out, chosen-more, sure-applies, none-counted, upper-inside, agree-in, agree-out, agree-make, clash-lower, clash-upper, leaf-one, leaf-unlawful, count-split}
 use Rattle.bits.specs.Sets.{has, With, Subset, Both, Either, Difference}
 use Rattle.bits.proofs.Digits.{digits-same, inside-le, zero-has}
 use Rattle.counting.specs.Rules.{operator, LeastBy, Lawful}
@@ -36,19 +36,11 @@ surely-possibly i o apart r e =
     and-intro (all-intro (λ a. not (has i a)) neg (λ a m. not-intro (is-false (λ t. true-false (all-at (has o) neg (and-left (all (has o) neg) (not (r .free) || has i h) e) a m) (apart a t)))))
     (⊎-elim (λ q. or-left (not (has o h)) q) (λ q. or-right (not (r .free)) (not-intro (apart h q))) (or-cases (not (r .free)) (has i h) (and-right (all (has o) neg) (not (r .free) || has i h) e)))
 
--- What a state that agrees has and lacks.
-agree-at : (n : ℕ) (i o X : State) → agrees n i o X ≡ true → (a : ℕ) → a < n → (i a ≡ true → X a ≡ true) × (o a ≡ true → X a ≡ false)
-unfolding agrees
-agree-at n i o X e a l =
-    let u = all-at (λ a. (not (i a) || X a) && (not (o a) || not (X a))) (range 0 n) e a (range-in 0 n a (omega arith) (omega arith)) in (
-      λ t. ⊎-elim (λ f. absurd (true-false t (not-elim f))) (λ x. x) (or-cases (not (i a)) (X a) (and-left (not (i a) || X a) (not (o a) || not (X a)) u)),
-      λ t. ⊎-elim (λ f. absurd (true-false t (not-elim f))) (λ x. not-elim x) (or-cases (not (o a)) (not (X a)) (and-right (not (i a) || X a) (not (o a) || not (X a)) u)),
-    )
-
+-- A state that agrees with decisions, and with what it has and lacks besides.
 agree-more : (n : ℕ) (i o i′ o′ X : State) → agrees n i o X ≡ true → ((a : ℕ) → i′ a ≡ true → (i a ≡ true) ⊎ (X a ≡ true))
     → ((a : ℕ) → o′ a ≡ true → (o a ≡ true) ⊎ (X a ≡ false)) → agrees n i′ o′ X ≡ true
 agree-more n i o i′ o′ X g f h =
-    agree-make n i′ o′ X (λ a l t. ⊎-elim (agree-at n i o X g a l .0) (λ x. x) (f a t)) (λ a l t. ⊎-elim (agree-at n i o X g a l .1) (λ x. x) (h a t))
+    agree-make n i′ o′ X (λ a l t. ⊎-elim (agree-in n i o X g a l) (λ x. x) (f a t)) (λ a l t. ⊎-elim (agree-out n i o X g a l) (λ x. x) (h a t))
 
 module _ (n : ℕ) (rs : List CountRule) (cs : List Body) (heads pos neg gate : List ℕ) (k : ℕ) (cpos cneg : List ℕ) (m x i o : ℕ)
     (T : Task n rs cs heads pos neg gate k cpos cneg m x i o) where
@@ -82,31 +74,17 @@ module _ (n : ℕ) (rs : List CountRule) (cs : List Body) (heads pos neg gate : 
       (λ e. and-intro (and-left (isSettledBy n rs cs X) (agrees n (has i′) (has o′) X) e)
       (agree-more n (has i′) (has o′) (has i) (has o) X (and-right (isSettledBy n rs cs X) (agrees n (has i′) (has o′) X) e) (λ a t. inl (p a t)) (λ a t. inl (q a t))))))
 
-  no-state : ((X : State) → SettledBy n rs (T .heads-low) cs X → agrees n (has i) (has o) X ≡ true → ⊥) → countBy n rs cs (has i) (has o) ≡ 0
-  unfolding countBy
-  no-state h =
-      ap length (filter-none (λ X. isSettledBy n rs cs X && agrees n (has i) (has o) X) (states n) (λ X w. is-false (λ e.
-      h X (settled-by-out n rs (T .heads-low) cs X (states-within n X w) (and-left (isSettledBy n rs cs X) (agrees n (has i) (has o) X) e)) (and-right (isSettledBy n rs cs X) (agrees n (has i) (has o) X) e))))
-
-  -- A settled state that agrees is closed under the rules that surely apply.
-  sure-applies : (X : State) → agrees n (has i) (has o) X ≡ true → (r : CountRule) → List·Memᴰ r rs → surely (has i) (has o) r ≡ true → applies X r ≡ true
-  unfolding outside
-  sure-applies X g r w e =
-      let ns = r .rule .body .neg in
-      let h = r .rule .head in
-      and-intro (all-intro (λ a. not (X a)) ns (λ a q. not-intro (agree-at n (has i) (has o) X g a (T .negs-low r w a q) .1 (all-at (has o) ns (and-left (all (has o) ns) (not (r .free) || has i h) e) a q))))
-      (⊎-elim (λ f. or-left (X h) f) (λ t. or-right (not (r .free)) (agree-at n (has i) (has o) X g h (T .heads-low r w) .0 t)) (or-cases (not (r .free)) (has i h) (and-right (all (has o) ns) (not (r .free) || has i h) e)))
-
+  -- What follows is in every settled state that agrees.
   follows : (l : ℕ) → LeastBy heads pos neg gate k true i o i l → (X : State) → SettledBy n rs (T .heads-low) cs X → agrees n (has i) (has o) X ≡ true → Inside (has l) X
   follows l B X S g =
-      B .below rs (T .held) X (λ a e. S .least .closed a (chosen-more (surely (has i) (has o)) (applies X) rs (sure-applies X g) X a e))
-      (λ a t. agree-at n (has i) (has o) X g a (T .ins-low a t) .0 t)
+      B .below rs (T .held) X (λ a e. S .least .closed a (chosen-more (surely (has i) (has o)) (applies X) rs (sure-applies n rs (T .heads-low) (T .negs-low) cs (has i) (has o) X g) X a e))
+      (λ a t. agree-in n (has i) (has o) X g a (T .ins-low a t) t)
 
   -- What follows meets what is out.
   meets : (l : ℕ) → LeastBy heads pos neg gate k true i o i l → (r : ℕ) → r < 2 ^ 64 → Both l o r → (r ≡ 0 → ⊥) → countBy n rs cs (has i) (has o) ≡ 0
   meets l B r small W ne =
-      no-state (λ X S g. ne (empty-both l o r small W (λ a t. is-false (λ q. let y = follows l B X S g a t in
-      true-false y (agree-at n (has i) (has o) X g a (S .within a y) .1 q)))))
+      none-counted n rs (T .heads-low) (T .negs-low) cs (has i) (has o) (λ X S g. ne (empty-both l o r small W (λ a t. is-false (λ q. let y = follows l B X S g a t in
+      true-false y (agree-out n (has i) (has o) X g a (S .within a y) q)))))
 
   -- An upper bound lacks what is in.
   lacks : (u : ℕ) → Least (operator false i o rs) (has u) → Subset i u false → countBy n rs cs (has i) (has o) ≡ 0
