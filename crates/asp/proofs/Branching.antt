@@ -62,7 +62,7 @@ chosen-more p q rs h L a e =
     fired-in q rs L a (record { rule = F .rule; stands = F .stands; passes = h (F .rule) (F .stands) (F .passes); head = F .head; positives = F .positives })
 
 -- Least sets of the same operator are the same.
-pub least-same : (f : State → State) (L M : State) → Least f L → Least f M → L ≡ M
+least-same : (f : State → State) (L M : State) → Least f L → Least f M → L ≡ M
 least-same f L M l m = fun-ext (λ a. bool-ext (l .least M (m .closed) a) (m .least L (l .closed) a))
 
 -- Heads below n, so rounds give the least model.
@@ -81,7 +81,7 @@ module _ (n : ℕ) (rs : List CountRule) (low : (r : CountRule) → List·Memᴰ
         bounded = λ L a e. let F = fired-out p rs L a e in subst (λ b. b < n) (F .head) (low (F .rule) (F .stands));
       }
 
-  pub chosen-least : (p : CountRule → Bool) → Least (consequences (chosen p rs)) (leastModel n (chosen p rs))
+  chosen-least : (p : CountRule → Bool) → Least (consequences (chosen p rs)) (leastModel n (chosen p rs))
   unfolding leastModel
   chosen-least p = rounds-least n (consequences (chosen p rs)) (operator p)
 
@@ -116,7 +116,7 @@ module _ (n : ℕ) (rs : List CountRule) (low : (r : CountRule) → List·Memᴰ
         same : (a : ℕ) → X a ≡ leastModel n (chosen (applies X) rs) a
         same a = bool-ext (λ x. sym (at-atom a (within a x)) ∙ x) (λ d. at-atom a (chosen-below (applies X) a d) ∙ d)
 
-    pub settled-by-in : (X : State) → SettledBy X → isSettledBy n rs cs X ≡ true
+    settled-by-in : (X : State) → SettledBy X → isSettledBy n rs cs X ≡ true
     unfolding isSettledBy
     settled-by-in X S =
         let same = least-same (consequences (chosen (applies X) rs)) X (leastModel n (chosen (applies X) rs)) (S .least) (chosen-least (applies X)) in
@@ -170,7 +170,7 @@ module _ (n : ℕ) (rs : List CountRule) (low : (r : CountRule) → List·Memᴰ
       (or-cases (not (r .free)) (X h) (and-right (all (λ a. not (X a)) neg) (not (r .free) || X h) e)))
 
   -- The two bounds.
-  pub lower-inside : (L X : State) → Least (consequences (chosen (surely i o) rs)) L → Fits X → agrees n i o X ≡ true → Inside L X
+  lower-inside : (L X : State) → Least (consequences (chosen (surely i o) rs)) L → Fits X → agrees n i o X ≡ true → Inside L X
   lower-inside L X B S g =
       B .least X (λ a e. S .least .closed a (chosen-more (surely i o) (applies X) rs (sure-applies X g) X a e))
 

@@ -15,7 +15,7 @@ use Rattle.asp.specs.Settled.{definite, reduct, derived}
 use Rattle.asp.proofs.Rounds.{Operator, rounds-least, rounds-below}
 
 -- The rules of P.
-pub rule-below : (P : Program) → wellFormed P ≡ true → (r : Rule) → List·Memᴰ r (P .rules) → ruleBelow (P .atoms) r ≡ true
+rule-below : (P : Program) → wellFormed P ≡ true → (r : Rule) → List·Memᴰ r (P .rules) → ruleBelow (P .atoms) r ≡ true
 unfolding wellFormed
 rule-below P w r m =
     all-at (ruleBelow (P .atoms)) (P .rules) (and-left (all (ruleBelow (P .atoms)) (P .rules)) (all (bodyBelow (P .atoms)) (P .constraints)) w) r m
@@ -25,7 +25,7 @@ unfolding ruleBelow
 head-below P w r m = ltb-true (r .head) (P .atoms) (and-left (ltb (r .head) (P .atoms)) (bodyBelow (P .atoms) (r .body)) (rule-below P w r m))
 
 -- The atoms of a body.
-pub body-below : (n : ℕ) (b : Body) → bodyBelow n b ≡ true → (a : ℕ) → List·Memᴰ a (b .pos) ⊎ List·Memᴰ a (b .neg) → a < n
+body-below : (n : ℕ) (b : Body) → bodyBelow n b ≡ true → (a : ℕ) → List·Memᴰ a (b .pos) ⊎ List·Memᴰ a (b .neg) → a < n
 unfolding bodyBelow below
 body-below n b e a m =
     ltb-true a n
@@ -75,7 +75,7 @@ module _ (rs : List Rule) (X : State) where
       (Memᴰ·map definite (filter-in (λ r. outside X (r .body .neg)) rs (h .rule) (h .stands) (h .negatives)))
       (and-intro (eq-eqb (h .rule .head) a (h .head)) (h .positives))
 
-  pub fires-mono : (L M : State) → Inside L M → (a : ℕ) → Fires rs X L a → Fires rs X M a
+  fires-mono : (L M : State) → Inside L M → (a : ℕ) → Fires rs X L a → Fires rs X M a
   fires-mono L M i a h =
       record { rule = h .rule; stands = h .stands; head = h .head; negatives = h .negatives; positives = all-mono L M (h .rule .body .pos) i (h .positives) }
 

@@ -37,7 +37,7 @@ module _ (n : ℕ) (f : State → State) (F : Operator n f) where
   rounds-up zero a e = absurd (false≢true e)
   rounds-up (suc k) a e = F .mono (rounds f k) (rounds f (suc k)) (rounds-up k) a e
 
-  pub rounds-inside : (Y : State) → Closed f Y → (k : ℕ) → Inside (rounds f k) Y
+  rounds-inside : (Y : State) → Closed f Y → (k : ℕ) → Inside (rounds f k) Y
   unfolding rounds
   rounds-inside Y c zero a e = absurd (false≢true e)
   rounds-inside Y c (suc k) a e = c a (F .mono (rounds f k) Y (rounds-inside Y c k) a e)

@@ -29,7 +29,7 @@ pub holds-neg : (X : State) (b : Body) → holds X b ≡ true → outside X (b .
 unfolding holds
 holds-neg X b h = and-right (all X (b .pos)) (outside X (b .neg)) h
 
-pub outside-less : (X Y : State) → Inside X Y → (l : List ℕ) → outside Y l ≡ true → outside X l ≡ true
+outside-less : (X Y : State) → Inside X Y → (l : List ℕ) → outside Y l ≡ true → outside X l ≡ true
 unfolding outside
 outside-less X Y i l h = all-mono (λ a. not (Y a)) (λ a. not (X a)) l (λ a e. not-intro (is-false (λ t. true-false (i a t) (not-elim e)))) h
 

@@ -34,7 +34,7 @@ module _ (names : List ℕ) (n c x : ℕ) (M : Members names n c x) where
   member-low : (a : ℕ) → has x a ≡ true → a < n
   member-low a t = ltb-true a n (and-left (ltb a n) (eqb (getD names a 0) c) (sym (M .members a) ∙ t))
 
-  pub members-named : n ≤ 64 → filter (has x) (range 0 64) ≡ named names c n
+  members-named : n ≤ 64 → filter (has x) (range 0 64) ≡ named names c n
   unfolding named
   members-named l =
       filter-range (has x) n 64 l member-low

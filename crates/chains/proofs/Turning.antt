@@ -28,7 +28,7 @@ module _ (P : Program) (rows atoms : List ℕ) (k : ℕ) (K : Setting P rows ato
   atom p = getD atoms p 0
 
   -- Before the first entry nothing is found.
-  pub table-start : (sets : List ℕ) → ((S : ℕ) → S < 2 ^ k → getD sets S 0 ≡ 0) → Table P atoms k sets []
+  table-start : (sets : List ℕ) → ((S : ℕ) → S < 2 ^ k → getD sets S 0 ≡ 0) → Table P atoms k sets []
   table-start sets z =
       record {
         right = λ S l p m e. (
@@ -38,7 +38,7 @@ module _ (P : Program) (rows atoms : List ℕ) (k : ℕ) (K : Setting P rows ato
       }
 
   -- An entry of another atom.
-  pub table-other : (sets s : List ℕ) (x : ℕ) → ((q : ℕ) → q < k → getD atoms q 0 ≡ x → ⊥) → Table P atoms k sets s → Table P atoms k sets (x ∷ s)
+  table-other : (sets s : List ℕ) (x : ℕ) → ((q : ℕ) → q < k → getD atoms q 0 ≡ x → ⊥) → Table P atoms k sets s → Table P atoms k sets (x ∷ s)
   table-other sets s x none T =
       record {
         right = λ S l p m e. (
@@ -112,7 +112,7 @@ module _ (P : Program) (rows atoms : List ℕ) (k : ℕ) (K : Setting P rows ato
         differs : x ≡ atom p → ⊥
         differs f = ne (K .apart p i m low (sym f ∙ sym is))
 
-    pub table-own : Table P atoms k new (x ∷ s)
+    table-own : Table P atoms k new (x ∷ s)
     table-own =
         record {
           right = λ S l p m e. by-bool (eqb p i) (λ t. here S l p m e (eqb-true p i t)) (λ t. there S l p m e (eqb-false p i t));

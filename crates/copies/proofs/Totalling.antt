@@ -30,7 +30,7 @@ atoms-bound [] h = omega arith
 atoms-bound (b ∷ bs) h = let f = h b (List·Memᴰ·head refl) in let g = atoms-bound bs (λ x m. h x (List·Memᴰ·tail m)) in let k = suc-mul (length bs) 128 in omega arith
 
 -- How many records are chosen.
-pub chosen-size : (s : List ℕ) (n m : ℕ) (vars : List ℕ) (kind a : ℕ) (r : Choice) → Chosen s n m vars kind a r → r .rules ≡ length (bodiesBy vars kind a (recordsFrom m s 5))
+chosen-size : (s : List ℕ) (n m : ℕ) (vars : List ℕ) (kind a : ℕ) (r : Choice) → Chosen s n m vars kind a r → r .rules ≡ length (bodiesBy vars kind a (recordsFrom m s 5))
 chosen-size s n m vars kind a r C = sym (bodies-at-size s vars (r .places) 0 (r .rules)) ∙ ap length (C .bodies)
 
 module _ (s q : List ℕ) (n m : ℕ) where

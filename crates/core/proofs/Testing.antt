@@ -49,7 +49,7 @@ module _ (L : Limits) (s q : List ℕ) (r : Analysis) (A : Analysed L s r) where
     unfolding sheetQuestions
     components = ask-passed (componentsFit (L .component) (program s)) 7 (λ e. omega arith) (then-passed (formQuestions L s) (ask (componentsFit (L .component) (program s)) 7) accepted .1)
 
-    pub atoms-low : L .atoms ≤ 64 → r .atoms ≤ 64
+    atoms-low : L .atoms ≤ 64 → r .atoms ≤ 64
     atoms-low l = let K = A .accepted z in let a = formed L s (K .form) .atoms in let x = K .atoms in omega arith
 
     module _ (b : Bool) (e : b ≡ sequenceFits L (r .atoms) q) where
@@ -100,7 +100,7 @@ module _ (L : Limits) (s q : List ℕ) (r : Analysis) (E : Examined L s q r) whe
   pub test-passed : r .refusal ≡ 0 → answered [] ≡ outcome (testQuestions L s q) []
   test-passed z = outcome-answered (testQuestions L s q) (r .refusal) [] (E .says) z
 
-pub ask-true : (b : Bool) (q : ℕ) → b ≡ true → ask b q ≡ 0
+ask-true : (b : Bool) (q : ℕ) → b ≡ true → ask b q ≡ 0
 unfolding ask
 ask-true b q e = rw e refl
 

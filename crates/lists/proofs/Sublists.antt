@@ -33,7 +33,7 @@ module _ {A : Type 0} where
   pub mem-reverse : {a : A} (l : List A) → List·Memᴰ a (reverse l) → List·Memᴰ a l
   mem-reverse l n = ⊎-elim (λ m. m) (λ m. absurd (List·Memᴰ·not-nil m)) (mem-reverseAux l [] n)
 
-  pub sublist-reverse : {l m : List A} → Sublistᴰ l m → Sublistᴰ (reverse l) (reverse m)
+  sublist-reverse : {l m : List A} → Sublistᴰ l m → Sublistᴰ (reverse l) (reverse m)
   sublist-reverse s = sublist-reverseAux s Sublistᴰ·slnil
 
   pub sublist-reversed : {l m : List A} → Sublistᴰ (reverse l) m → Sublistᴰ l (reverse m)

@@ -31,7 +31,7 @@ pub then-refused : (q r : ℕ) → (q ≡ 0 → ⊥) → q then r ≡ q
 unfolding _then_
 then-refused q r h = rw (ne-eqb q 0 h) refl
 
-pub complete-in : (s : List ℕ) (at : ℕ) → Complete s at → complete s at ≡ true
+complete-in : (s : List ℕ) (at : ℕ) → Complete s at → complete s at ≡ true
 unfolding complete
 complete-in s at C =
     and-intro (and-intro (and-intro (lt-ltb at (length s) (C .starts)) (le-leb 3 (size s at) (C .three))) (le-leb (end s at) (length s) (C .fits)))

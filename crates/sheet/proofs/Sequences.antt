@@ -61,7 +61,7 @@ module _ (L : Limits) (n : ℕ) (q : List ℕ) where
         low = and-right (leb 3 (length q) && eqb (byte q 0) 1 && leb (entriesField q) (L .entries) && eqb (length q) (3 + entriesField q)) (below n (entries q)) e;
       }
 
-  pub fits-in : Fits L n q → sequenceFits L n q ≡ true
+  fits-in : Fits L n q → sequenceFits L n q ≡ true
   unfolding sequenceFits
   fits-in F =
       and-intro (and-intro (and-intro (and-intro (le-leb 3 (length q) (F .three)) (eq-eqb (byte q 0) 1 (F .version))) (le-leb (entriesField q) (L .entries) (F .few)))

@@ -18,7 +18,7 @@ use Rattle.unfolding.proofs.Reach.{edge-in}
 use Rattle.unfolding.proofs.Completion.{Names, bodies}
 
 -- The latest copy of a copied atom.
-pub copied-latest : (past : List Copy) (b : ℕ) → copied past b ≡ true → (c : Copy) × List·Memᴰ c past × (c .atom ≡ b) × (latest past b ≡ c .var)
+copied-latest : (past : List Copy) (b : ℕ) → copied past b ≡ true → (c : Copy) × List·Memᴰ c past × (c .atom ≡ b) × (latest past b ≡ c .var)
 unfolding copied latest any
 copied-latest [] b e = absurd (true-false e refl)
 copied-latest (c ∷ past) b e =

@@ -18,7 +18,7 @@ use Rattle.unfolding.specs.Chain.{linked, Chain, Passes, extends, longer
 use Rattle.unfolding.proofs.Reach.{together-refl, together-sym}
 
 -- `found` is the kit's sublist relation.
-pub found-out : (w s : List ℕ) → found w s ≡ true → Sublistᴰ w s
+found-out : (w s : List ℕ) → found w s ≡ true → Sublistᴰ w s
 unfolding found
 found-out [] s e = Sublistᴰ·nil-sublist s
 found-out (a ∷ w) [] e = absurd (false≢true e)
@@ -26,7 +26,7 @@ found-out (a ∷ w) (x ∷ s) e =
     ⊎-elim (λ q. Sublistᴰ·cons-cons (eqb-true a x (and-left (eqb a x) (found w s) q)) (found-out w s (and-right (eqb a x) (found w s) q)))
     (λ q. Sublistᴰ·cons (found-out (a ∷ w) s q)) (or-cases (eqb a x && found w s) (found (a ∷ w) s) e)
 
-pub found-in : (w s : List ℕ) → Sublistᴰ w s → found w s ≡ true
+found-in : (w s : List ℕ) → Sublistᴰ w s → found w s ≡ true
 unfolding found
 found-in [] s h = refl
 found-in (a ∷ w) [] h = absurd (cons≢nil (Sublistᴰ·eq-nil h))

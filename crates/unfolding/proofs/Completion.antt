@@ -172,7 +172,7 @@ bodies U = flatMap (λ c. c .kept) (U .copies)
 
 -- What it is to be a model of the clauses.
 pub record Models (M : Assignment) (U : Unfolded) : Type 0 where
-  pub tied : Tied M (suc (length (U .copies))) (bodies U)
+  tied : Tied M (suc (length (U .copies))) (bodies U)
   pub solves : Solves M (U .copies)
   pub lawful : all (λ b. not (holds M b)) (U .constraints) ≡ true
 
@@ -201,7 +201,7 @@ pub record Names (k : ℕ) (b : Body) : Type 0 where
 abbrev pub Agree : ℕ → Assignment → Assignment → Type 0
 Agree k M M′ = (v : ℕ) → 1 ≤ v → v ≤ k → M v ≡ M′ v
 
-pub holds-agree : (k : ℕ) (M M′ : Assignment) → Agree k M M′ → (b : Body) → Names k b → holds M b ≡ holds M′ b
+holds-agree : (k : ℕ) (M M′ : Assignment) → Agree k M M′ → (b : Body) → Names k b → holds M b ≡ holds M′ b
 unfolding holds outside
 holds-agree k M M′ g b n =
     ap (λ (x : Bool). x && all (λ v. not (M v)) (b .neg)) (all-cong M M′ (b .pos) (λ v m. let u = n .pos v m in g v (u .0) (u .1)))

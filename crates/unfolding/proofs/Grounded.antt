@@ -57,7 +57,7 @@ module _ (P : Program) (wf : wellFormed P ≡ true) (X : State) where
     grounded-below zero a l x = absurd (not-suc-le-zero l)
     grounded-below (suc m) a l x = along m (grounded-below m) S a l (own a x)
 
-    pub grounded : Inside X (derived P X)
+    grounded : Inside X (derived P X)
     grounded a x = grounded-below (suc (ancestors P a)) a (omega arith) x
 
 -- For a sequence that passes, given latest first.

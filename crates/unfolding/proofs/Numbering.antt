@@ -49,7 +49,7 @@ module _ (P : Program) where
       ⊎-elim (λ u. let k = u .2 in true-false (member-in a s (subst (λ x. List·Memᴰ x s) (omega arith) (u .1))) q) (λ l. let k = low a (List·Memᴰ·head refl) in omega arith) f
 
   -- The copies' variables are free ones, and different.
-  pub copy-free : (s : List ℕ) (e : ℕ) (past : List Copy) (c : Copy) → List·Memᴰ c (copiesFrom P e past s) → Free P e s (c .var)
+  copy-free : (s : List ℕ) (e : ℕ) (past : List Copy) (c : Copy) → List·Memᴰ c (copiesFrom P e past s) → Free P e s (c .var)
   unfolding copiesFrom
   copy-free [] e past c m = absurd (List·Memᴰ·not-nil m)
   copy-free (a ∷ s) e past c m =
