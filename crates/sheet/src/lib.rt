@@ -1,9 +1,8 @@
 // Reading the bytes of sheets and sequences: questions 1 to 6 and 8, and the places of records.
 use bits::byte_at;
 ghost use mathlib.Core.Path.{_≡_};
-ghost use mathlib.Core.Bool.{Bool, true, _&&_};
-ghost use Prim.Native.Nat.{ℕ, _+_, _≤_, _<_};
-ghost use lib.ListN.{length};
+ghost use mathlib.Core.Bool.{true};
+ghost use Prim.Native.Nat.{_+_, _≤_, _<_};
 ghost use Rattle.sheet.specs.Format.{complete, Complete, kindFits, kindPasses, listFits, listsFit, recordQuestions, recordsQuestions, formQuestions, end};
 ghost use Rattle.sheet.specs.Sheet.{Walk, Stepped};
 ghost use Rattle.sheet.specs.Sequence.{entries, sequenceFits};

@@ -1,6 +1,6 @@
 -- `counting::better` meets its contract, one law for each way through it.
 use borrow.Author.Needs.{needs}
-use Rattle.counting.proofs.Search.{better-here}
+use Rattle.counting.proofs.Seeking.{better-here}
 use Rattle.counting.proofs.better.Statement.{statement}
 use Rattle.counting.proofs.better.Tie as tie
 

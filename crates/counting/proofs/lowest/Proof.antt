@@ -1,7 +1,7 @@
 -- `counting::lowest` meets its contract, one law for each way through it.
 use Prim.Native.Nat.{_-_}
 use borrow.Author.Needs.{needs}
-use Rattle.counting.proofs.Search.{Seeking, seeking-start, seeking-turn, seeking-found, seeking-end}
+use Rattle.counting.proofs.Seeking.{Seeking, seeking-start, seeking-turn, seeking-found, seeking-end}
 use Rattle.counting.proofs.lowest.Statement.{statement}
 use Rattle.counting.proofs.lowest.Tie as tie
 

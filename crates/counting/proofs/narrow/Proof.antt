@@ -1,7 +1,7 @@
 -- `counting::narrow` meets its contract, one law for each way through it.
 use borrow.Author.Tests.{not-true, not-false}
 use borrow.Author.Needs.{needs}
-use Rattle.counting.proofs.Search.{round-met, round-still, round-lacks, round-goes}
+use Rattle.counting.proofs.Narrowing.{round-met, round-still, round-lacks, round-goes}
 use Rattle.counting.proofs.narrow.Statement.{statement}
 use Rattle.counting.proofs.narrow.Tie as tie
 

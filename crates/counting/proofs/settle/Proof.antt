@@ -2,7 +2,7 @@
 use Prim.Native.Nat.{_-_}
 use native.Mathlib.Omega.{arith}
 use borrow.Author.Needs.{needs}
-use Rattle.counting.proofs.Search.{Settling, settling-start, settling-turn, settling-end}
+use Rattle.counting.proofs.Narrowing.{Settling, settling-start, settling-turn, settling-end}
 use Rattle.counting.proofs.settle.Statement.{statement}
 use Rattle.counting.proofs.settle.Tie as tie
 
