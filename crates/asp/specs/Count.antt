@@ -8,6 +8,7 @@ use Rattle.lists.specs.Lists.{filter}
 use Rattle.asp.specs.Program.{Program, State}
 use Rattle.asp.specs.Settled.{isSettled}
 
+-- The empty state.
 unfoldable pub empty : State
 empty a = false
 
@@ -34,6 +35,7 @@ pub record Enumerates (S : State → Type 0) (L : List State) : Type 0 where
 unfoldable pub count : Program → ℕ
 count P = length (settledStates P)
 
+-- The verdict.
 pub data Verdict : Type 0 where
   none clear split : Verdict
 

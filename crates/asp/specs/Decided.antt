@@ -10,6 +10,7 @@ use Rattle.asp.specs.LeastModel.{Definite, leastModel}
 use Rattle.asp.specs.Settled.{definite}
 use Rattle.asp.specs.Count.{states}
 
+-- A rule of a count.
 pub record CountRule : Type 0 where
   pub rule : Rule
   pub free : Bool
@@ -34,10 +35,11 @@ isSettledBy n rs cs X = all (λ a. Bool·beq (X a) (leastModel n (chosen (applie
 unfoldable pub agrees : ℕ → State → State → State → Bool
 agrees n i o X = all (λ a. (not (i a) || X a) && (not (o a) || not (X a))) (range 0 n)
 
--- The rule applies in every state that agrees, and in some that may.
+-- The rule applies in every state that agrees.
 abbrev pub surely : State → State → CountRule → Bool
 surely i o r = all o (r .rule .body .neg) && (not (r .free) || i (r .rule .head))
 
+-- The rule applies in some state that may agree.
 abbrev pub possibly : State → State → CountRule → Bool
 possibly i o r = outside i (r .rule .body .neg) && (not (r .free) || not (o (r .rule .head)))
 

@@ -37,6 +37,7 @@ holds X b = all X (b .pos) && outside X (b .neg)
 unfoldable pub bodyBelow : ℕ → Body → Bool
 bodyBelow n b = below n (b .pos) && below n (b .neg)
 
+-- So are the head and the body of the rule.
 unfoldable pub ruleBelow : ℕ → Rule → Bool
 ruleBelow n r = ltb (r .head) n && bodyBelow n (r .body)
 

@@ -59,6 +59,7 @@ pub record PlaceOf (atoms : List ℕ) (k x r : ℕ) : Type 0 where
   pub found : r < k → getD atoms r 0 ≡ x
   pub missing : k ≤ r → (q : ℕ) → q < k → getD atoms q 0 ≡ x → ⊥
 
+-- r is the number of sets of k places.
 pub record Power (k r : ℕ) : Type 0 where
   pub is : r ≡ 2 ^ k
   pub some : 1 ≤ r

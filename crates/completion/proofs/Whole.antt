@@ -27,7 +27,7 @@ use Rattle.copies.proofs.Totalling.{rules-short, atoms-short, constraints-short
 use Rattle.copies.proofs.Tracking.{constraints-same}
 use Rattle.literals.specs.Literals.{Low}
 use Rattle.literals.proofs.Rule.{signed-append}
-use Rattle.completion.specs.Ends.{copyWords, CopyPut}
+use Rattle.completion.specs.Ends.{copyClauseWords, CopyPut}
 use Rattle.completion.specs.declared.Ends.{Ends}
 use Rattle.completion.proofs.Sizes.{first-words, copies-words, constraints-words}
 
@@ -50,16 +50,16 @@ module _ (s : List ℕ) (n m : ℕ) (vars : List ℕ) (a : ℕ) (c : Choice) (C 
   abbrev restWords : List ℤ
   restWords = signedWords (rulesClauses h (E .rule) (bodiesAt s vars (c .places) 0 (c .rules)))
 
-  copy-is : copyWords (E .rule) h bodies ≡ firstWords ++ restWords
-  unfolding copyWords copyClauses signedWords flatMap
+  copy-is : copyClauseWords (E .rule) h bodies ≡ firstWords ++ restWords
+  unfolding copyClauseWords copyClauses signedWords flatMap
   copy-is =
-      ap (copyWords (E .rule) h) (sym (C .bodies))
+      ap (copyClauseWords (E .rule) h) (sym (C .bodies))
       ∙ ap (λ k. clauseWords (negative h ∷ map positive (range (E .rule) k)) ++ restWords) (bodies-at-size s vars (c .places) 0 (c .rules))
 
-  copy-size : length (copyWords (E .rule) h bodies) ≡ c .rules + 2 + length restWords
+  copy-size : length (copyClauseWords (E .rule) h bodies) ≡ c .rules + 2 + length restWords
   copy-size = let e = ap length copy-is ∙ length-append firstWords restWords in let f = first-words h (E .rule) (c .rules) in omega arith
 
-  module _ (room : E .at + length (copyWords (E .rule) h bodies) < 4294967296) where
+  module _ (room : E .at + length (copyClauseWords (E .rule) h bodies) < 4294967296) where
     pub copy-first : E .at + c .rules + 2 < 4294967296
     copy-first = let e = copy-size in omega arith
 
@@ -130,7 +130,7 @@ module _ (s q : List ℕ) (n m : ℕ) (names : List ℕ) (R : Ready s q n m name
         kept = bodiesBy (c′ .vars) 0 (c′ .atom) (recordsFrom m s 5)
 
         abbrev here : List ℤ
-        here = copyWords (E .rule) (c′ .var) kept
+        here = copyClauseWords (E .rule) (c′ .var) kept
 
         pub copies-low : Low (c′ .vars)
         copies-low = record { low = λ b l. let h = turned .low b l in omega arith }
@@ -139,7 +139,7 @@ module _ (s q : List ℕ) (n m : ℕ) (names : List ℕ) (R : Ready s q n m name
         copies-var = let h = turned .small in omega arith
 
         step : signedWords (copiesClauses (E .rule) (L .copies)) ≡ here ++ signedWords (copiesClauses (E .rule + length kept) (turned .rest))
-        unfolding copiesClauses copyWords copyClauses
+        unfolding copiesClauses copyClauseWords copyClauses
         step =
             ap (λ cs. signedWords (copiesClauses (E .rule) cs)) (turned .first)
             ∙ signed-append (copyClauses (E .rule) (record { atom = 0; var = c′ .var; kept = kept })) (copiesClauses (E .rule + length kept) (turned .rest))

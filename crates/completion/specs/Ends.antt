@@ -12,14 +12,15 @@ use Rattle.completion.specs.declared.Ends.{Ends}
 use Rattle.completion.specs.declared.Numbers.{Numbers}
 
 -- The words of the clauses of a copy with the variable h, whose rules have these bodies and the variables from d on.
-unfoldable pub copyWords : ℕ → ℕ → List Body → List ℤ
-copyWords d h bs = signedWords (copyClauses d (record { atom = 0; var = h; kept = bs }))
+unfoldable pub copyClauseWords : ℕ → ℕ → List Body → List ℤ
+copyClauseWords d h bs = signedWords (copyClauses d (record { atom = 0; var = h; kept = bs }))
 
 -- These are written, and the next rule's variable comes behind.
 pub record CopyPut (h : ℕ) (bs : List Body) (old new : List ℤ) (from to : Ends) : Type 0 where
-  pub wrote : Wrote old (from .at) (copyWords (from .rule) h bs) new (to .at)
+  pub wrote : Wrote old (from .at) (copyClauseWords (from .rule) h bs) new (to .at)
   pub rule : to .rule ≡ from .rule + length bs
 
+-- How many words, variables and clauses there are.
 pub record NumbersOf (U : Unfolded) (r : Numbers) : Type 0 where
   pub words : r .words ≡ length (signedWords (clauses U))
   pub variables : r .variables ≡ variables U

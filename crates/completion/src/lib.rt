@@ -16,10 +16,10 @@ ghost use Rattle.unfolding.specs.Clauses.{positive, negative, rulesClauses, cop
 ghost use Rattle.sheet.specs.Sheet.{Walk, recordsFrom};
 ghost use Rattle.writer.specs.Wrote.{Wrote};
 ghost use Rattle.copies.specs.Bodies.{bodiesBy, bodiesAt, lastBodies};
-ghost use Rattle.copies.specs.Indexed.{Placed, Indexed};
+ghost use Rattle.copies.specs.Indexed.{AllKnown, Indexed};
 ghost use Rattle.copies.specs.Ready.{Ready, unfoldedOf};
 ghost use Rattle.literals.specs.Literals.{Low};
-ghost use Rattle.completion.specs.Ends.{copyWords, CopyPut, NumbersOf};
+ghost use Rattle.completion.specs.Ends.{copyClauseWords, CopyPut, NumbersOf};
 
 // The clauses of the rules at the first k places, for h; their variables are d, d + 1 and on.
 fn put_rules(
@@ -33,7 +33,7 @@ fn put_rules(
     k: usize,
     vars: &[u32; 64],
 ) -> usize
-    requires { ⌜ Placed (now s) n (now places) k × (n ≤ 64) × (k ≤ 128) × Low (now vars) × (h < 2147483648) × (d + k < 2147483648) × (at + length (signedWords (rulesClauses h d (bodiesAt (now s) (now vars) (now places) 0 k))) < 4294967296) ⌝ }
+    requires { ⌜ AllKnown (now s) n (now places) k × (n ≤ 64) × (k ≤ 128) × Low (now vars) × (h < 2147483648) × (d + k < 2147483648) × (at + length (signedWords (rulesClauses h d (bodiesAt (now s) (now vars) (now places) 0 k))) < 4294967296) ⌝ }
     ensures { λ r. ⌜ Wrote (now (out .entry)) at (signedWords (rulesClauses h d (bodiesAt (now (s .entry)) (now (vars .entry)) (now (places .entry)) 0 k))) (now (out .exit)) r ⌝ }
 {
     let mut pos = at;
@@ -92,7 +92,7 @@ fn put_copy(
     places: &[usize; 128],
     sets: &[u64; 128],
 ) -> Ends
-    requires { ⌜ Indexed (now s) n m (now places) (now sets) × (n ≤ 64) × (m ≤ 128) × Low (now vars) × (h < 2147483648) × (ends .rule < 1000000) × (ends .at + length (copyWords (ends .rule) h (bodiesBy (now vars) 0 a (recordsFrom m (now s) 5))) < 4294967296) ⌝ }
+    requires { ⌜ Indexed (now s) n m (now places) (now sets) × (n ≤ 64) × (m ≤ 128) × Low (now vars) × (h < 2147483648) × (ends .rule < 1000000) × (ends .at + length (copyClauseWords (ends .rule) h (bodiesBy (now vars) 0 a (recordsFrom m (now s) 5))) < 4294967296) ⌝ }
     ensures { λ r. ⌜ CopyPut h (bodiesBy (now (vars .entry)) 0 a (recordsFrom m (now (s .entry)) 5)) (now (out .entry)) (now (out .exit)) ends r ⌝ }
 {
     let choice = choose(s, n, m, 0, a, vars, places, sets);
@@ -148,7 +148,7 @@ fn put_backs(
     k: usize,
     vars: &[u32; 64],
 ) -> usize
-    requires { ⌜ Placed (now s) n (now places) k × (n ≤ 64) × (k ≤ 128) × Low (now vars) × (at + length (signedWords (map constraintClause (bodiesAt (now s) (now vars) (now places) 0 k))) < 4294967296) ⌝ }
+    requires { ⌜ AllKnown (now s) n (now places) k × (n ≤ 64) × (k ≤ 128) × Low (now vars) × (at + length (signedWords (map constraintClause (bodiesAt (now s) (now vars) (now places) 0 k))) < 4294967296) ⌝ }
     ensures { λ r. ⌜ Wrote (now (out .entry)) at (signedWords (map constraintClause (bodiesAt (now (s .entry)) (now (vars .entry)) (now (places .entry)) 0 k))) (now (out .exit)) r ⌝ }
 {
     let mut pos = at;

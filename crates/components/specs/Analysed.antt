@@ -15,6 +15,7 @@ pub record Accepted (L : Limits) (s : List ℕ) (r : Analysis) : Type 0 where
   pub records : r .records ≡ recordsByte s
   pub names : NamesOf (program s) (r .names)
 
+-- The refusal by questions 1 to 7, and what is known where there is none.
 pub record Analysed (L : Limits) (s : List ℕ) (r : Analysis) : Type 0 where
   pub says : r .refusal ≡ sheetQuestions L s
   pub accepted : r .refusal ≡ 0 → Accepted L s r

@@ -50,6 +50,7 @@ pub record Closed (n : ℕ) (rows new : List ℕ) : Type 0 where
 abbrev pub link : Record → Relation
 link r a b = eqb (r .kind) 0 && (eqb (r .head) a && member b (r .body .pos))
 
+-- Some record is one.
 abbrev pub links : List Record → Relation
 links rs a b = any (λ r. link r a b) rs
 

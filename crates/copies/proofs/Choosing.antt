@@ -21,7 +21,7 @@ use Rattle.sheet.specs.Format.{byte, part, posOf, negOf, head, middle, end, ris
 use Rattle.sheet.specs.Sheet.{Record, recordAt, recordsFrom, Known}
 use Rattle.sheet.proofs.Known.{below-more, gather-neg}
 use Rattle.copies.specs.Bodies.{stands, variableBy, chosen, bodyBy, bodiesBy, bodiesAt, atomCount}
-use Rattle.copies.specs.Indexed.{Placed, recordsAt, Indexed}
+use Rattle.copies.specs.Indexed.{AllKnown, recordsAt, Indexed}
 use Rattle.copies.specs.Chosen.{Standing, Chooses, Chosen}
 use Rattle.copies.proofs.Indexing.{placed-more, placed-store}
 
@@ -123,7 +123,7 @@ pub record Choosing (s : List ℕ) (n m : ℕ) (vars places : List ℕ) (kind a 
   pub long : length chosen-places ≡ 128
   pub few : rules ≤ j
   pub within : j ≤ m
-  pub placed : Placed s n chosen-places rules
+  pub placed : AllKnown s n chosen-places rules
   pub atoms-so-far : atoms ≡ atomCount (bodiesAt s vars chosen-places 0 rules)
   pub small : atoms ≤ 255 * j
   pub rest : bodiesAt s vars chosen-places 0 rules ++ bodiesBy vars kind a (recordsAt s places j (m - j)) ≡ bodiesBy vars kind a (recordsFrom m s 5)

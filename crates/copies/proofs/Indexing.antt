@@ -16,7 +16,7 @@ use Rattle.bits.proofs.Picking.{Picking, picking-start, picking-turn, picked}
 use Rattle.sheet.specs.Format.{part, posOf}
 use Rattle.sheet.specs.Sheet.{Known, Walk, Stepped, recordAt, recordsFrom}
 use Rattle.copies.specs.Bodies.{stands}
-use Rattle.copies.specs.Indexed.{Placed, recordsAt, Indexed}
+use Rattle.copies.specs.Indexed.{AllKnown, recordsAt, Indexed}
 use Rattle.copies.specs.Chosen.{Standing}
 
 -- The positive atoms of a record.
@@ -29,12 +29,12 @@ pub record Indexing (s : List ℕ) (n m j at : ℕ) (places pos : List ℕ) : Ty
   pub within : j ≤ m
   pub long : length places ≡ 128
   pub long-sets : length pos ≡ 128
-  pub placed : Placed s n places j
+  pub placed : AllKnown s n places j
   pub sets : (i : ℕ) → i < j → Gathered (posOf s (getD places i 0)) (getD pos i 0)
   pub records : recordsAt s places 0 j ++ recordsFrom (m - j) s at ≡ recordsFrom m s 5
 
 -- One place more.
-pub placed-more : (s : List ℕ) (n : ℕ) (places : List ℕ) (k at : ℕ) → k < length places → Placed s n places k → Known s n at → Placed s n (set places k at) (k + 1)
+pub placed-more : (s : List ℕ) (n : ℕ) (places : List ℕ) (k at : ℕ) → k < length places → AllKnown s n places k → Known s n at → AllKnown s n (set places k at) (k + 1)
 placed-more s n places k at l P K =
     record {
       known = λ j h. by-bool (eqb j k)
@@ -43,7 +43,7 @@ placed-more s n places k at l P K =
     }
 
 -- A store behind the places leaves them.
-pub placed-store : (s : List ℕ) (n : ℕ) (places : List ℕ) (k at : ℕ) → Placed s n places k → Placed s n (set places k at) k
+pub placed-store : (s : List ℕ) (n : ℕ) (places : List ℕ) (k at : ℕ) → AllKnown s n places k → AllKnown s n (set places k at) k
 placed-store s n places k at P = record { known = λ j h. subst (Known s n) (sym (getD-set-other places k j at 0 (λ e. omega arith))) (P .known j h) }
 
 module _ (s : List ℕ) (n m : ℕ) where
@@ -90,7 +90,7 @@ module _ (s : List ℕ) (n m : ℕ) where
       let e : j ≡ m = omega arith in
       let z : m - j ≡ 0 = omega arith in
       record {
-        placed = subst (Placed s n places) e (I .placed);
+        placed = subst (AllKnown s n places) e (I .placed);
         sets = λ i h. I .sets i (omega arith);
         records = ap (λ k. recordsAt s places 0 k) (sym e) ∙ (sym (append-nil (recordsAt s places 0 j)) ∙ (ap (λ k. recordsAt s places 0 j ++ recordsFrom k s at) (sym z) ∙ I .records));
       }

@@ -6,7 +6,7 @@ use Prim.Native.Nat.{ℕ, _≤_, _<_}
 use Rattle.bits.specs.Sets.{has}
 use Rattle.sheet.specs.Sheet.{Record, recordsFrom}
 use Rattle.copies.specs.Bodies.{stands, chosen, bodiesBy, bodiesAt, atomCount}
-use Rattle.copies.specs.Indexed.{Placed}
+use Rattle.copies.specs.Indexed.{AllKnown}
 use Rattle.copies.specs.declared.Choice.{Choice}
 
 -- The set of the atoms below 64 for which a variable stands.
@@ -19,7 +19,7 @@ pub record Chooses (set kind a : ℕ) (x : Record) (r : Bool) : Type 0 where
 
 -- The places of the chosen records of m, and how many atoms their bodies have.
 pub record Chosen (s : List ℕ) (n m : ℕ) (vars : List ℕ) (kind a : ℕ) (r : Choice) : Type 0 where
-  pub placed : Placed s n (r .places) (r .rules)
+  pub placed : AllKnown s n (r .places) (r .rules)
   pub bodies : bodiesAt s vars (r .places) 0 (r .rules) ≡ bodiesBy vars kind a (recordsFrom m s 5)
   pub atoms : r .atoms ≡ atomCount (bodiesBy vars kind a (recordsFrom m s 5))
   pub few : r .rules ≤ m

@@ -9,7 +9,7 @@ use Rattle.sheet.specs.Format.{posOf}
 use Rattle.sheet.specs.Sheet.{Record, Known, recordAt, recordsFrom}
 
 -- The records at the first k places have passed.
-pub record Placed (s : List ℕ) (n : ℕ) (places : List ℕ) (k : ℕ) : Type 0 where
+pub record AllKnown (s : List ℕ) (n : ℕ) (places : List ℕ) (k : ℕ) : Type 0 where
   pub known : (j : ℕ) → j < k → Known s n (getD places j 0)
 
 -- The records at k places, from the j-th on.
@@ -18,6 +18,6 @@ recordsAt s places j k = map (λ i. recordAt s (getD places i 0)) (range j k)
 
 -- The places of a sheet's m records, and their positive atoms.
 pub record Indexed (s : List ℕ) (n m : ℕ) (places pos : List ℕ) : Type 0 where
-  pub placed : Placed s n places m
+  pub placed : AllKnown s n places m
   pub sets : (j : ℕ) → j < m → Gathered (posOf s (getD places j 0)) (getD pos j 0)
   pub records : recordsAt s places 0 m ≡ recordsFrom m s 5

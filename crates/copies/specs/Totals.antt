@@ -12,10 +12,12 @@ use Rattle.copies.specs.declared.Totals.{Totals}
 abbrev pub keptBodies : List Copy → List Body
 keptBodies cs = flatMap (λ c. c .kept) cs
 
+-- The numbers of the rules that the copies keep and of their atoms.
 pub record KeptTotals (U : Unfolded) (r : Totals) : Type 0 where
   pub rules : r .rules ≡ length (keptBodies (U .copies))
   pub atoms : r .atoms ≡ atomCount (keptBodies (U .copies))
 
+-- The same with those of the constraints, and bounds of all.
 pub record TotalsOf (U : Unfolded) (r : Totals) : Type 0 where
   pub kept : KeptTotals U r
   pub constraints : r .constraints ≡ length (U .constraints)

@@ -15,6 +15,7 @@ pub record Placed (s : List ℕ) (n i r : ℕ) : Type 0 where
   pub is : r ≡ place i s
   pub known : Known s n r
 
+-- Where the body of record i is, and how many of its atoms are positive.
 pub record Shown (i : ℕ) (s : List ℕ) (r : BodyPlace) : Type 0 where
   pub start : r .start ≡ place i s + 4
   pub stop : r .end ≡ end s (place i s)
@@ -22,6 +23,7 @@ pub record Shown (i : ℕ) (s : List ℕ) (r : BodyPlace) : Type 0 where
   pub order : r .start ≤ r .end
   pub inside : r .end ≤ length s
 
+-- The refusal of showing a body, or the body.
 pub record BodyFound (L : Limits) (i : ℕ) (s : List ℕ) (r : BodyPlace) : Type 0 where
   pub says : r .refusal ≡ bodyQuestions L i s
   pub shown : r .refusal ≡ 0 → Shown i s r

@@ -22,6 +22,7 @@ ClausesPromise L s q old new r = Emits (clausesQuestions L (length old) s q) (cl
 abbrev pub UnfoldedPromise : Limits → List ℕ → List ℕ → List ℕ → List ℕ → Outcome → Type 0
 UnfoldedPromise L s q old new r = Emits (unfoldedQuestions L (length old) s q) (unfoldedWords s q) [] old new r
 
+-- Demand 3.
 pub record Demand3 (L : Limits) : Type 0 where
   -- The clauses derived from whatever testing accepts: their models, cut, are exactly the settled states, one model for each.
   pub faithful : (s q : List ℕ) → testQuestions L s q ≡ 0 → Faithful (program s) (entries q)

@@ -18,6 +18,7 @@ pub record BothAccepted (L : Limits) (s q : List ℕ) (r : Analysis) : Type 0 wh
   pub fits : sequenceFits L (atomsByte s) q ≡ true
   pub found : passes (program s) (entries q) ≡ true
 
+-- The refusal by questions 1 to 9, and what is known where there is none.
 pub record Examined (L : Limits) (s q : List ℕ) (r : Analysis) : Type 0 where
   pub says : r .refusal ≡ testQuestions L s q
   pub accepted : r .refusal ≡ 0 → BothAccepted L s q r

@@ -21,6 +21,7 @@ use Rattle.core.specs.declared.Verdict.the-variants as verdict
 use Rattle.core.specs.declared.CountAnswer.{CountAnswer}
 use Rattle.core.specs.declared.CountAnswer.the-variants as counted
 
+-- A refusal, or what is answered.
 pub data Outcome : Type 0 where
   refused : ℕ → Outcome
   answered : List ℕ → Outcome
@@ -71,5 +72,6 @@ pub record Emits {A : Type 0} (q : ℕ) (output : List A) (more : List ℕ) (old
   pub says : r ≡ outcome q (length output ∷ more)
   pub leaves : new ≡ cond (eqb q 0) (output ++ drop (length output) old) old
 
+-- The same where nothing but the length is answered.
 abbrev pub Writes : {A : Type 0} → ℕ → List A → List A → List A → WriteAnswer → Type 0
 Writes q output old new r = Emits q output [] old new (writeOf r)

@@ -72,6 +72,7 @@ pub record BodyMatches (b : Body) (pos neg : ℕ) : Type 0 where
   pub positives : (a : ℕ) → has pos a ≡ member a (b .pos)
   pub negatives : (a : ℕ) → has neg a ≡ member a (b .neg)
 
+-- The first k masks hold the bodies of the constraints.
 pub record HeldBodies (cs : List Body) (pos neg : List ℕ) (k : ℕ) : Type 0 where
   pub sound : (j : ℕ) → j < k → (b : Body) × List·Memᴰ b cs × BodyMatches b (getD pos j 0) (getD neg j 0)
   pub complete : (b : Body) → List·Memᴰ b cs → (j : ℕ) × (j < k) × BodyMatches b (getD pos j 0) (getD neg j 0)

@@ -56,6 +56,7 @@ pub record Bounded (n : ℕ) (rs : List CountRule) (cs : List Body) (heads pos n
   pub same : B .clash ≡ false → countBy n rs cs (has i) (has o) ≡ countBy n rs cs (has (B .i)) (has (B .o))
   pub task : B .clash ≡ false → Task n rs cs heads pos neg gate k cpos cneg m x (B .i) (B .o)
 
+-- So for every task of these masks, and nothing that was decided is lost.
 pub record Narrowed (heads pos neg gate : List ℕ) (k x i o : ℕ) (B : Bounds) : Type 0 where
   pub is : (n : ℕ) (rs : List CountRule) (cs : List Body) (cpos cneg : List ℕ) (m : ℕ) → Task n rs cs heads pos neg gate k cpos cneg m x i o
       → Bounded n rs cs heads pos neg gate k cpos cneg m x i o B

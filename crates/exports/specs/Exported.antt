@@ -17,17 +17,20 @@ use Rattle.office.specs.Office.{office}
 abbrev pub stored : ℕ → ℕ → ℕ → ℕ
 stored q value old = cond (eqb q 0) value old
 
+-- Two values.
 pub record Two (q r x y old-x old-y new-x new-y : ℕ) : Type 0 where
   pub says : r ≡ q
   pub first : new-x ≡ stored q x old-x
   pub second : new-y ≡ stored q y old-y
 
+-- Three values.
 pub record Three (q r x y z old-x old-y old-z new-x new-y new-z : ℕ) : Type 0 where
   pub says : r ≡ q
   pub first : new-x ≡ stored q x old-x
   pub second : new-y ≡ stored q y old-y
   pub third : new-z ≡ stored q z old-z
 
+-- An output and its length.
 pub record Output {A : Type 0} (q r : ℕ) (output old new : List A) (old-length new-length : ℕ) : Type 0 where
   pub says : r ≡ q
   pub leaves : new ≡ cond (eqb q 0) (output ++ drop (length output) old) old

@@ -24,6 +24,7 @@ blockOf names n c = times (length (named names c n)) (named names c n)
 unfoldable pub blocksOf : List ℕ → ℕ → List ℕ
 blocksOf names n = flatMap (blockOf names n) (range 0 n)
 
+-- r is the square of a component's size.
 pub record Square (x r : ℕ) : Type 0 where
   pub is : r ≡ x * x
   pub small : r ≤ 4096

@@ -8,6 +8,7 @@ use Rattle.lists.specs.Lists.{below}
 use Rattle.sheet.specs.Questions.{ask, _then_}
 use Rattle.sheet.specs.declared.Limits.{Limits}
 
+-- The byte at an index.
 abbrev pub byte : List ℕ → ℕ → ℕ
 byte s i = getD s i 0
 
@@ -45,6 +46,7 @@ middle s at = at + 4 + positives s at
 abbrev pub part : ℕ → ℕ → List ℕ → List ℕ
 part a e s = take (e - a) (drop a s)
 
+-- The positive and the negative atoms of the record.
 abbrev pub posOf : List ℕ → ℕ → List ℕ
 posOf s at = part (at + 4) (middle s at) s
 
@@ -78,6 +80,7 @@ pub record Complete (s : List ℕ) (at : ℕ) : Type 0 where
 unfoldable pub kindFits : ℕ → ℕ → ℕ → Bool
 kindFits n k h = eqb k 0 && ltb h n || eqb k 1 && eqb h 0
 
+-- The same of the record at `at`.
 unfoldable pub kindPasses : ℕ → List ℕ → ℕ → Bool
 kindPasses n s at = kindFits n (kind s at) (head s at)
 

@@ -14,6 +14,7 @@ pub record Record : Type 0 where
   pub head : ℕ
   pub body : Body
 
+-- The record whose bytes start at `at`.
 unfoldable pub recordAt : List ℕ → ℕ → Record
 recordAt s at = record { kind = kind s at; head = head s at; body = record { pos = posOf s at; neg = negOf s at } }
 
@@ -22,6 +23,7 @@ unfoldable pub recordsFrom : ℕ → List ℕ → ℕ → List Record
 recordsFrom zero s at = []
 recordsFrom (suc k) s at = recordAt s at ∷ recordsFrom k s (end s at)
 
+-- All records of the sheet.
 unfoldable pub records : List ℕ → List Record
 records s = recordsFrom (recordsByte s) s 5
 

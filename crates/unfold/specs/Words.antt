@@ -1,10 +1,11 @@
--- The words of bodies.
+-- The words of bodies in the unfolded program.
 use mathlib.Core.List.{List, _∷_, flatMap}
 use Prim.Native.Nat.{ℕ}
 use lib.ListN.{length}
 use Rattle.asp.specs.Program.{Body}
 use Rattle.unfolding.specs.Unfolded.{bodyWords}
 
+-- The words of bodies, one behind the other.
 unfoldable pub bodiesWords : List Body → List ℕ
 bodiesWords bs = flatMap bodyWords bs
 

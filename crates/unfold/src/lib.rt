@@ -16,7 +16,7 @@ ghost use Rattle.unfolding.specs.Unfolded.{bodyWords, copyWords, words};
 ghost use Rattle.sheet.specs.Sheet.{Known, Walk, recordAt, recordsFrom};
 ghost use Rattle.writer.specs.Wrote.{Wrote};
 ghost use Rattle.copies.specs.Bodies.{variableBy, bodyBy, bodiesBy, bodiesAt, lastBodies};
-ghost use Rattle.copies.specs.Indexed.{Placed, Indexed};
+ghost use Rattle.copies.specs.Indexed.{AllKnown, Indexed};
 ghost use Rattle.copies.specs.Ready.{Ready, unfoldedOf};
 ghost use Rattle.unfold.specs.Words.{bodiesWords, countedWords};
 
@@ -73,7 +73,7 @@ fn put_bodies(
     k: usize,
     vars: &[u32; 64],
 ) -> usize
-    requires { ⌜ Placed (now s) n (now places) k × (n ≤ 64) × (k ≤ 128) × (at + length (bodiesWords (bodiesAt (now s) (now vars) (now places) 0 k)) < 4294967296) ⌝ }
+    requires { ⌜ AllKnown (now s) n (now places) k × (n ≤ 64) × (k ≤ 128) × (at + length (bodiesWords (bodiesAt (now s) (now vars) (now places) 0 k)) < 4294967296) ⌝ }
     ensures { λ r. ⌜ Wrote (now (out .entry)) at (bodiesWords (bodiesAt (now (s .entry)) (now (vars .entry)) (now (places .entry)) 0 k)) (now (out .exit)) r ⌝ }
 {
     let mut pos = at;

@@ -7,17 +7,21 @@ use Rattle.lists.specs.Lists.{range}
 use Rattle.asp.specs.Program.{Body}
 use Rattle.unfolding.specs.Unfolded.{Copy, Unfolded}
 
+-- A literal: a variable, or its negation.
 pub data Literal : Type 0 where
   positive negative : ℕ → Literal
 
+-- Its variable.
 unfoldable pub variableOf : Literal → ℕ
 variableOf (positive v) = v
 variableOf (negative v) = v
 
+-- The opposite literal.
 unfoldable pub negated : Literal → Literal
 negated (positive v) = negative v
 negated (negative v) = positive v
 
+-- A clause: some literal is true.
 abbrev pub Clause : Type 0
 Clause = List Literal
 
@@ -40,6 +44,7 @@ rulesClauses h d (b ∷ bs) = ruleClauses h d b ++ rulesClauses h (suc d) bs
 unfoldable pub copyClauses : ℕ → Copy → List Clause
 copyClauses d c = (negative (c .var) ∷ map positive (range d (length (c .kept)))) ∷ rulesClauses (c .var) d (c .kept)
 
+-- The same for copies, the rule variables counted on.
 unfoldable pub copiesClauses : ℕ → List Copy → List Clause
 copiesClauses d [] = []
 copiesClauses d (c ∷ cs) = copyClauses d c ++ copiesClauses (d + length (c .kept)) cs
@@ -65,6 +70,7 @@ signed (negative v) = negℤ (pos v)
 unfoldable pub clauseWords : Clause → List ℤ
 clauseWords c = map signed c ++ (pos 0 ∷ [])
 
+-- The words of clauses, one behind the other.
 unfoldable pub signedWords : List Clause → List ℤ
 signedWords cs = flatMap clauseWords cs
 

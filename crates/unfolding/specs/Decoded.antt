@@ -5,6 +5,7 @@ use lib.ListN.{getD, take, drop}
 use Rattle.asp.specs.Program.{Body}
 use Rattle.unfolding.specs.Unfolded.{Copy, Unfolded}
 
+-- The word at an index.
 abbrev pub word : List ℕ → ℕ → ℕ
 word ws i = getD ws i 0
 

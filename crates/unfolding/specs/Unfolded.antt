@@ -45,10 +45,11 @@ replaced P past a b = cond (together P a b) (latest past b) (last b)
 unfoldable pub renamed : (ℕ → ℕ) → Body → Body
 renamed f b = record { pos = map f (b .pos); neg = map last (b .neg) }
 
--- The rules kept for a copy of a, in sheet order.
+-- The rule is kept for a copy of a.
 unfoldable pub isKept : Program → List Copy → ℕ → Rule → Bool
 isKept P past a r = eqb (r .head) a && all (usable P past a) (r .body .pos)
 
+-- The rules kept for a copy of a, in sheet order, over variables.
 unfoldable pub keptFor : Program → List Copy → ℕ → List Body
 keptFor P past a = map (λ r. renamed (replaced P past a) (r .body)) (filter (isKept P past a) (P .rules))
 
