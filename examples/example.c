@@ -4,9 +4,9 @@
 
 int main(void) {
     const uint8_t sheet[] = {1, 0, 25, 3, 4, 4, 0, 0, 1, 1, 4, 0, 1, 1, 0, 4, 0, 0, 0, 2, 4, 0, 2, 0, 0};
-    uint8_t sequence[643];
+    uint8_t sequence[RULESHEET_DEFAULT_ROOM];
     int32_t words[16384];
-    uint64_t written, variables, clauses, states, verdict;
+    uint64_t written, variables, clauses, count, verdict;
 
     if (rulesheet_default(sheet, sizeof sheet, sequence, sizeof sequence, &written) != 0) {
         return 1;
@@ -20,10 +20,10 @@ int main(void) {
         return 1;
     }
     printf("clauses: %d over %d variables\n", (int)clauses, (int)variables);
-    if (rulesheet_count(sheet, sizeof sheet, &states, &verdict) != 0) {
+    if (rulesheet_count(sheet, sizeof sheet, &count, &verdict) != 0) {
         return 1;
     }
-    printf("settled states: %d, verdict %d\n", (int)states, (int)verdict);
-    printf("no bytes: refused %u\n", rulesheet_count(sheet, 0, &states, &verdict));
+    printf("settled states: %d, verdict %d\n", (int)count, (int)verdict);
+    printf("no bytes: refused %u\n", rulesheet_count(sheet, 0, &count, &verdict));
     return 0;
 }

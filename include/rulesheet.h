@@ -1,15 +1,11 @@
-/* Rule sheets: normal logic programs in bytes.
+/* Rule sheets: normal logic programs in bytes. The library is librulesheet.a, for x86-64 Linux.
  *
- * Every function returns 0, or refuses with the number of the first thing that is wrong:
- *    1  fewer than 5 bytes, or the version is not 1        7  a component has more than 10 atoms
- *    2  the length field is not the number of bytes        8  the sequence is malformed
- *    3  more than 64 atoms or 128 records                  9  the sequence lacks a chain
- *    4  a record is incomplete, or bytes are left over    10  the output does not fit
- *    5  a record's kind or head                           11  more than 16 atoms are negated in rules
- *    6  a record's lists of atoms                         12  there is no record with that number
+ * Every function returns 0, or refuses with the number of the first question that is answered by no. On a refusal nothing
+ * that was lent is changed. On success the numbers are stored, and of out only the first *written elements are changed.
  *
- * On a refusal nothing that was lent is changed. On success the out-parameters are set, and of out only the first
- * *written elements are changed. Lent memory does not overlap; a pointer may not be null, even with length 0. */
+ * Lent memory does not overlap; a pointer may not be null, even with length 0. A function keeps nothing from one call to
+ * the next and allocates nothing. A call takes at most 44 KB of stack: as measured, read, body and components 17 KB,
+ * default 18 KB, count 22 KB, test 34 KB, unfolded and clauses 40 KB. */
 
 #ifndef RULESHEET_H
 #define RULESHEET_H
@@ -21,11 +17,41 @@
 extern "C" {
 #endif
 
+/* Refusals. */
+enum rulesheet_refused {
+    RULESHEET_REFUSED_VERSION = 1,    /* fewer than 5 bytes, or the version is not 1 */
+    RULESHEET_REFUSED_LENGTH = 2,     /* the length field is not the number of bytes */
+    RULESHEET_REFUSED_LIMITS = 3,     /* more than 64 atoms or 128 records */
+    RULESHEET_REFUSED_RECORD = 4,     /* a record is incomplete, or bytes are left over */
+    RULESHEET_REFUSED_KIND = 5,       /* a record's kind or head */
+    RULESHEET_REFUSED_ATOMS = 6,      /* a record's lists of atoms */
+    RULESHEET_REFUSED_COMPONENT = 7,  /* a component has more than 10 atoms */
+    RULESHEET_REFUSED_SEQUENCE = 8,   /* the sequence is malformed */
+    RULESHEET_REFUSED_CHAIN = 9,      /* the sequence lacks a chain */
+    RULESHEET_REFUSED_ROOM = 10,      /* the output does not fit */
+    RULESHEET_REFUSED_NEGATED = 11,   /* more than 16 atoms are negated in rules */
+    RULESHEET_REFUSED_NUMBER = 12     /* there is no record with that number */
+};
+
+/* Verdicts on the number of settled states. */
+enum rulesheet_verdict {
+    RULESHEET_NONE = 0,  /* there is none */
+    RULESHEET_CLEAR = 1, /* there is one */
+    RULESHEET_SPLIT = 2  /* there are more */
+};
+
+/* Room in out that is enough for every legal input, in elements. Some input needs all of it, but for the default sequence:
+ * the longest has 619 bytes, and 643 hold any sequence that is accepted. */
+#define RULESHEET_COMPONENTS_ROOM 64
+#define RULESHEET_DEFAULT_ROOM 643
+#define RULESHEET_UNFOLDED_ROOM 9585922
+#define RULESHEET_CLAUSES_ROOM 38192384
+
 /* Reads a sheet: its number of atoms and its number of records. */
 uint32_t rulesheet_read(const uint8_t *sheet, size_t sheet_len, uint64_t *atoms, uint64_t *records);
 
-/* The body of one record, counted from 0, constraints included: its number of positive atoms, and the stretch
- * sheet[offset .. offset + length] from the first positive atom to the last negative one. */
+/* The body of one record, counted from 0, constraints included: its number of positive atoms, and its slice of the sheet,
+ * length bytes from offset on, from the first positive atom to the last negative one. */
 uint32_t rulesheet_body(const uint8_t *sheet, size_t sheet_len, uint64_t number, uint64_t *positives, uint64_t *offset,
                         uint64_t *length);
 
@@ -46,7 +72,7 @@ uint32_t rulesheet_unfolded(const uint8_t *sheet, size_t sheet_len, const uint8_
 uint32_t rulesheet_clauses(const uint8_t *sheet, size_t sheet_len, const uint8_t *sequence, size_t sequence_len,
                            int32_t *out, size_t out_len, uint64_t *written, uint64_t *variables, uint64_t *clauses);
 
-/* Counts the settled states (answer sets). The verdict is 0 where there is none, 1 where there is one, 2 where there are more. */
+/* Counts the settled states (answer sets), with the verdict. */
 uint32_t rulesheet_count(const uint8_t *sheet, size_t sheet_len, uint64_t *count, uint64_t *verdict);
 
 #ifdef __cplusplus

@@ -1,6 +1,9 @@
 //! Tests of the rule sheet service from outside: an independent reference implementation, vector files, generated
 //! inputs, and the calls to the library.
 
+#[cfg(feature = "library")]
+#[path = "../../include/rulesheet.rs"]
+pub mod binding;
 pub mod inputs;
 #[cfg(feature = "library")]
 pub mod library;

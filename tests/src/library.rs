@@ -1,48 +1,15 @@
 //! The library behind include/rulesheet.h. Every call checks that memory which the answer leaves alone is untouched.
 
+use crate::binding::raw::{
+    rulesheet_body, rulesheet_clauses, rulesheet_components, rulesheet_count, rulesheet_default, rulesheet_read,
+    rulesheet_test, rulesheet_unfolded,
+};
 use crate::lent::{Lent, Unchanged};
 use crate::service::{Answer, Call, Operation, Service};
 use std::io::Write;
 use std::path::PathBuf;
 use std::process::{Command, Stdio};
 use std::thread;
-
-/// Declares the functions of the header; one that the header does not have yet is never called.
-macro_rules! header {
-    ($($operation:tt fn $name:ident($($argument:ident: $type:ty),* $(,)?);)*) => {$(
-        #[cfg(operation = $operation)]
-        extern "C" {
-            fn $name($($argument: $type),*) -> u32;
-        }
-        #[cfg(not(operation = $operation))]
-        unsafe extern "C" fn $name($(_: $type),*) -> u32 {
-            unreachable!()
-        }
-    )*};
-}
-
-header! {
-    "read" fn rulesheet_read(sheet: *const u8, sheet_len: usize, atoms: *mut u64, records: *mut u64);
-    "body" fn rulesheet_body(
-        sheet: *const u8, sheet_len: usize, number: u64, positives: *mut u64, offset: *mut u64, length: *mut u64,
-    );
-    "components" fn rulesheet_components(
-        sheet: *const u8, sheet_len: usize, out: *mut u8, out_len: usize, written: *mut u64,
-    );
-    "default" fn rulesheet_default(
-        sheet: *const u8, sheet_len: usize, out: *mut u8, out_len: usize, written: *mut u64,
-    );
-    "test" fn rulesheet_test(sheet: *const u8, sheet_len: usize, sequence: *const u8, sequence_len: usize);
-    "unfolded" fn rulesheet_unfolded(
-        sheet: *const u8, sheet_len: usize, sequence: *const u8, sequence_len: usize,
-        out: *mut u32, out_len: usize, written: *mut u64,
-    );
-    "clauses" fn rulesheet_clauses(
-        sheet: *const u8, sheet_len: usize, sequence: *const u8, sequence_len: usize,
-        out: *mut i32, out_len: usize, written: *mut u64, variables: *mut u64, clauses: *mut u64,
-    );
-    "count" fn rulesheet_count(sheet: *const u8, sheet_len: usize, count: *mut u64, verdict: *mut u64);
-}
 
 type Writer = unsafe extern "C" fn(*const u8, usize, *mut u8, usize, *mut u64) -> u32;
 
@@ -68,17 +35,7 @@ impl Default for Library {
 
 impl Service for Library {
     fn offers(&self, operation: Operation) -> bool {
-        match operation {
-            Operation::Read => cfg!(operation = "read"),
-            Operation::Body => cfg!(operation = "body"),
-            Operation::Components => cfg!(operation = "components"),
-            Operation::Default => cfg!(operation = "default"),
-            Operation::Test => cfg!(operation = "test"),
-            Operation::Unfolded => cfg!(operation = "unfolded"),
-            Operation::Clauses => cfg!(operation = "clauses"),
-            Operation::Count => cfg!(operation = "count"),
-            Operation::Program => self.program.exists(),
-        }
+        operation != Operation::Program || self.program.exists()
     }
 
     fn answer(&self, call: &Call) -> Result<Answer, String> {
@@ -159,9 +116,9 @@ fn body(sheet: &Input, number: u64) -> Result<Answer, String> {
     }
     let (offset, length): (u64, u64) = (offset.value()?, length.value()?);
     let end = offset.checked_add(length).filter(|&end| end <= sheet.length() as u64);
-    let end = end.ok_or(format!("the stretch of {length} bytes at {offset} is not in the sheet"))?;
-    let stretch = sheet.read_back()[offset as usize..end as usize].to_vec();
-    Ok(Answer::Body { positives: positives.value()?, stretch, offset })
+    let end = end.ok_or(format!("the slice of {length} bytes at {offset} is not in the sheet"))?;
+    let slice = sheet.read_back()[offset as usize..end as usize].to_vec();
+    Ok(Answer::Body { positives: positives.value()?, slice, offset })
 }
 
 fn bytes(function: Writer, sheet: &Input, room: usize) -> Result<Answer, String> {
@@ -220,80 +177,6 @@ fn count(sheet: &Input) -> Result<Answer, String> {
     match unsafe { rulesheet_count(sheet.pointer(), sheet.length(), count.pointer(), verdict.pointer()) } {
         0 => Ok(Answer::Count { count: count.value()?, verdict: verdict.value()? }),
         status => refused(status, &[&count, &verdict]),
-    }
-}
-
-// Calls with nothing checked, for measurements: what the operation answers, or the refusal.
-
-/// The numbers of atoms and records.
-pub fn plain_read(sheet: &[u8]) -> Result<[u64; 2], u32> {
-    let (mut atoms, mut records) = (0, 0);
-    let status = unsafe { rulesheet_read(sheet.as_ptr(), sheet.len(), &mut atoms, &mut records) };
-    plain(status, [atoms, records])
-}
-
-/// The number of positive atoms, the offset and the length of the stretch.
-pub fn plain_body(sheet: &[u8], number: u64) -> Result<[u64; 3], u32> {
-    let (mut positives, mut offset, mut length) = (0, 0, 0);
-    let status =
-        unsafe { rulesheet_body(sheet.as_ptr(), sheet.len(), number, &mut positives, &mut offset, &mut length) };
-    plain(status, [positives, offset, length])
-}
-
-/// The number of bytes written.
-pub fn plain_components(sheet: &[u8], out: &mut [u8]) -> Result<usize, u32> {
-    plain_bytes(rulesheet_components, sheet, out)
-}
-
-/// The number of bytes written.
-pub fn plain_default(sheet: &[u8], out: &mut [u8]) -> Result<usize, u32> {
-    plain_bytes(rulesheet_default, sheet, out)
-}
-
-fn plain_bytes(function: Writer, sheet: &[u8], out: &mut [u8]) -> Result<usize, u32> {
-    let mut written = 0;
-    let status = unsafe { function(sheet.as_ptr(), sheet.len(), out.as_mut_ptr(), out.len(), &mut written) };
-    plain(status, written as usize)
-}
-
-/// Whether the sequence passes.
-pub fn plain_test(sheet: &[u8], sequence: &[u8]) -> bool {
-    unsafe { rulesheet_test(sheet.as_ptr(), sheet.len(), sequence.as_ptr(), sequence.len()) == 0 }
-}
-
-/// The number of words written.
-pub fn plain_unfolded(sheet: &[u8], sequence: &[u8], out: &mut [u32]) -> Result<[u64; 1], u32> {
-    let mut written = 0;
-    let status = unsafe {
-        let (s, q, o) = (sheet.as_ptr(), sequence.as_ptr(), out.as_mut_ptr());
-        rulesheet_unfolded(s, sheet.len(), q, sequence.len(), o, out.len(), &mut written)
-    };
-    plain(status, [written])
-}
-
-/// The numbers of words written, of variables and of clauses.
-pub fn plain_clauses(sheet: &[u8], sequence: &[u8], out: &mut [i32]) -> Result<[u64; 3], u32> {
-    let [mut written, mut variables, mut clauses] = [0; 3];
-    let status = unsafe {
-        let (s, q, o) = (sheet.as_ptr(), sequence.as_ptr(), out.as_mut_ptr());
-        let (w, v, c) = (&mut written, &mut variables, &mut clauses);
-        rulesheet_clauses(s, sheet.len(), q, sequence.len(), o, out.len(), w, v, c)
-    };
-    plain(status, [written, variables, clauses])
-}
-
-/// The count.
-pub fn plain_count(sheet: &[u8]) -> Result<u64, u32> {
-    let (mut count, mut verdict) = (0, 0);
-    let status = unsafe { rulesheet_count(sheet.as_ptr(), sheet.len(), &mut count, &mut verdict) };
-    plain(status, count)
-}
-
-fn plain<A>(status: u32, answer: A) -> Result<A, u32> {
-    if status == 0 {
-        Ok(answer)
-    } else {
-        Err(status)
     }
 }
 

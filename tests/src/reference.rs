@@ -91,8 +91,8 @@ fn body(bytes: &[u8], number: u64) -> Result<Answer, Refusal> {
     let number = number as usize;
     let record = &sheet.records[number];
     let start = sheet.record_at(number) + 4;
-    let stretch = [&record.positives[..], &record.negatives[..]].concat();
-    Ok(Answer::Body { positives: record.positives.len() as u64, stretch, offset: start as u64 })
+    let slice = [&record.positives[..], &record.negatives[..]].concat();
+    Ok(Answer::Body { positives: record.positives.len() as u64, slice, offset: start as u64 })
 }
 
 fn components(sheet: &[u8]) -> Result<Answer, Refusal> {

@@ -108,7 +108,7 @@ impl Call {
 pub enum Answer {
     Refused(u32),
     Read { atoms: u64, records: u64 },
-    Body { positives: u64, stretch: Vec<u8>, offset: u64 },
+    Body { positives: u64, slice: Vec<u8>, offset: u64 },
     Bytes(Vec<u8>),
     Passed,
     Unfolded(Vec<u32>),
@@ -133,7 +133,7 @@ impl Answer {
         match self {
             Answer::Refused(number) => format!("refused {number}"),
             Answer::Count { verdict, .. } => format!("ok {}", verdict_name(*verdict)),
-            Answer::Body { stretch, .. } if stretch.is_empty() => "ok empty".into(),
+            Answer::Body { slice, .. } if slice.is_empty() => "ok empty".into(),
             Answer::Bytes(bytes) if bytes.is_empty() => "ok empty".into(),
             Answer::Text(text) if text.starts_with("refused ") => text.trim_end().into(),
             _ => "ok".into(),
@@ -156,7 +156,7 @@ impl fmt::Display for Answer {
         match self {
             Answer::Refused(number) => write!(f, "refused {number}"),
             Answer::Read { atoms, records } => write!(f, "ok {atoms} {records}"),
-            Answer::Body { positives, stretch, offset } => write!(f, "ok {positives} {} {offset}", hex(stretch)),
+            Answer::Body { positives, slice, offset } => write!(f, "ok {positives} {} {offset}", hex(slice)),
             Answer::Bytes(bytes) => write!(f, "ok {}", hex(bytes)),
             Answer::Passed => write!(f, "ok"),
             Answer::Unfolded(words) => write!(f, "ok {} {}", words.len(), word_list(words, |word| word.to_be_bytes())),

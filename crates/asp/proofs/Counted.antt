@@ -12,10 +12,10 @@ use Rattle.lists.proofs.Bools.{by-bool, true-false, is-false, bool-ext, and-int
 use Rattle.lists.proofs.Members.{filter-in, filter-out}
 use Rattle.lists.proofs.Nodup.{nodup-cons, nodup-append, nodup-map, nodup-filter, nodup-same}
 use Rattle.asp.specs.Program.{Program, State, wellFormed}
-use Rattle.asp.specs.Settled.{Settled, isSettled}
+use Rattle.asp.specs.StableModel.{StableModel, isStable}
 use Rattle.asp.specs.AnswerSet.{IsAnswerSet}
-use Rattle.asp.specs.Count.{empty, with, states, settledStates, count, Enumerates}
-use Rattle.asp.proofs.Same.{settled-answer, answer-settled, test-in, test-out}
+use Rattle.asp.specs.Count.{empty, with, states, stableModels, count, Enumerates}
+use Rattle.asp.proofs.Same.{stable-answer, answer-stable, test-in, test-out}
 
 with-other : (n : ℕ) (X : State) (a : ℕ) → (a ≡ n → ⊥) → with n X a ≡ X a
 unfolding with
@@ -75,20 +75,20 @@ states-distinct (suc n) =
         (λ q. sym (with-other n X a (eqb-false a n q)) ∙ ap (λ (Z : State). Z a) e ∙ with-other n Y a (eqb-false a n q)))
 
 module _ (P : Program) (w : wellFormed P ≡ true) where
-  -- The settled states are listed, each once.
-  pub settled-listed : Enumerates (Settled P) (settledStates P)
-  unfolding settledStates
-  settled-listed =
+  -- The stable models are listed, each once.
+  pub stable-listed : Enumerates (StableModel P) (stableModels P)
+  unfolding stableModels
+  stable-listed =
       record {
-        distinct = nodup-filter (isSettled P) (states (P .atoms)) (states-distinct (P .atoms));
-        sound = λ X m. let u = filter-out (isSettled P) (states (P .atoms)) X m in test-out P w X (states-within (P .atoms) X (u .0)) (u .1);
-        complete = λ X S. filter-in (isSettled P) (states (P .atoms)) X (states-all (P .atoms) X (S .within)) (test-in P w X S);
+        distinct = nodup-filter (isStable P) (states (P .atoms)) (states-distinct (P .atoms));
+        sound = λ X m. let u = filter-out (isStable P) (states (P .atoms)) X m in test-out P w X (states-within (P .atoms) X (u .0)) (u .1);
+        complete = λ X S. filter-in (isStable P) (states (P .atoms)) X (states-all (P .atoms) X (S .within)) (test-in P w X S);
       }
 
   -- However the answer sets of document 000 are listed, each once, the list is as long as the count says.
   pub count-answer-sets : (L : List State) → Enumerates (IsAnswerSet P) L → length L ≡ count P
   unfolding count
   count-answer-sets L E =
-      nodup-same L (settledStates P) (E .distinct) (settled-listed .distinct)
-      (λ X m. settled-listed .complete X (answer-settled P w X (E .sound X m)))
-      (λ X m. E .complete X (settled-answer P w X (settled-listed .sound X m)))
+      nodup-same L (stableModels P) (E .distinct) (stable-listed .distinct)
+      (λ X m. stable-listed .complete X (answer-stable P w X (E .sound X m)))
+      (λ X m. E .complete X (stable-answer P w X (stable-listed .sound X m)))

@@ -10,9 +10,10 @@ use Rattle.lists.specs.Lists.{below, all, filter}
 use Rattle.lists.proofs.Bools.{and-intro, and-left, and-right}
 use Rattle.lists.proofs.Members.{all-at, all-mono, any-at, any-intro, filter-in, filter-out}
 use Rattle.asp.specs.Program.{Body, Rule, Program, State, outside, ruleBelow, bodyBelow, wellFormed}
-use Rattle.asp.specs.LeastModel.{Definite, consequences, leastModel, Inside, Least}
-use Rattle.asp.specs.Settled.{definite, reduct, derived}
-use Rattle.asp.proofs.Rounds.{Operator, rounds-least, rounds-below}
+use Rattle.asp.specs.LeastModel.{Definite, consequences, leastModel, Inside}
+use Rattle.asp.specs.Least.{Least}
+use Rattle.asp.specs.StableModel.{definite, reduct, derived}
+use Rattle.asp.proofs.Rounds.{Operator, iterate-least, iterate-below}
 
 -- The rules of P.
 rule-below : (P : Program) → wellFormed P ≡ true → (r : Rule) → List·Memᴰ r (P .rules) → ruleBelow (P .atoms) r ≡ true
@@ -96,8 +97,8 @@ module _ (P : Program) (w : wellFormed P ≡ true) (X : State) where
 
   pub derived-least : Least (next P X) (derived P X)
   unfolding derived leastModel
-  derived-least = rounds-least (P .atoms) (next P X) derives
+  derived-least = iterate-least (P .atoms) (next P X) derives
 
   pub derived-within : (a : ℕ) → derived P X a ≡ true → a < P .atoms
   unfolding derived leastModel
-  derived-within a e = rounds-below (P .atoms) (next P X) derives (P .atoms) a e
+  derived-within a e = iterate-below (P .atoms) (next P X) derives (P .atoms) a e

@@ -2,5 +2,4 @@ pub mod Rounds
 pub mod Derived
 pub mod Same
 pub mod Counted
-pub mod Branching
 pub mod Claims

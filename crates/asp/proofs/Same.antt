@@ -1,4 +1,4 @@
--- The settled states of document 01 are the answer sets of document 000, and the test for them is right.
+-- The stable models of document 01 are the answer sets of document 000, and the test for them is right.
 use mathlib.Core.Bool.{Bool, true, false, not, _&&_, _||_, Bool·beq}
 use mathlib.Core.List.{List, [], _∷_, map, List·Memᴰ, List·Memᴰ·head, Memᴰ·map, Memᴰ·of-map, List·Memᴰ·append-cases, Memᴰ·append-left, Memᴰ·append-right}
 use mathlib.Core.Logic.{⊎-elim, _↔_}
@@ -11,8 +11,9 @@ use Rattle.lists.specs.Lists.{all, any, range}
 use Rattle.lists.proofs.Bools.{true-false, is-true, is-false, bool-ext, and-intro, and-left, and-right, or-cases, or-left, or-right, not-intro, not-elim}
 use Rattle.lists.proofs.Members.{all-at, all-intro, all-mono, all-append, any-at, any-intro, filter-in, filter-out, range-in}
 use Rattle.asp.specs.Program.{Body, Rule, Program, State, outside, holds, wellFormed}
-use Rattle.asp.specs.LeastModel.{Closed, Inside}
-use Rattle.asp.specs.Settled.{derived, lawful, Settled, isSettled}
+use Rattle.asp.specs.LeastModel.{Inside}
+use Rattle.asp.specs.Least.{Closed}
+use Rattle.asp.specs.StableModel.{derived, lawful, StableModel, isStable}
 use Rattle.asp.specs.AnswerSet.{satisfies, flpReduct, bottomRule, normalRules, IsAnswerSet}
 use Rattle.asp.proofs.Derived.{next, head-below, fires-in, fires-out, derived-least, derived-within}
 
@@ -116,20 +117,20 @@ module _ (P : Program) where
   constraint-in b m = Memᴰ·append-right (P .rules) (Memᴰ·map (bottomRule (P .atoms)) m)
 
 module _ (P : Program) (w : wellFormed P ≡ true) (X : State) where
-  stable-path : Settled P X → X ≡ derived P X
-  stable-path S = fun-ext (S .stable)
+  stable-path : StableModel P X → X ≡ derived P X
+  stable-path S = fun-ext (S .fixpoint)
 
-  pub settled-closed : Settled P X → Closed (next P X) X
-  settled-closed S = subst (Closed (next P X)) (sym (stable-path S)) (derived-least P w X .closed)
+  pub stable-closed : StableModel P X → Closed (next P X) X
+  stable-closed S = subst (Closed (next P X)) (sym (stable-path S)) (derived-least P w X .closed)
 
-  settled-model : Settled P X → (r : Rule) → List·Memᴰ r (normalRules P) → holds X (r .body) ≡ true → X (r .head) ≡ true
-  settled-model S r m h =
+  stable-model : StableModel P X → (r : Rule) → List·Memᴰ r (normalRules P) → holds X (r .body) ≡ true → X (r .head) ≡ true
+  stable-model S r m h =
       from-rules P r m
-      (λ n. settled-closed S (r .head) (fires-in (P .rules) X X (r .head) (record { rule = r; stands = n; head = refl; negatives = holds-neg X (r .body) h; positives = holds-pos X (r .body) h })))
+      (λ n. stable-closed S (r .head) (fires-in (P .rules) X X (r .head) (record { rule = r; stands = n; head = refl; negatives = holds-neg X (r .body) h; positives = holds-pos X (r .body) h })))
       (λ b n e. absurd (true-false (bottom-out (P .atoms) X b (ap (λ (r : Rule). holds X (r .body)) e ∙ h) .0) (lawful-out P X (S .obeys) b n)))
 
-  settled-minimal : Settled P X → (J : State) → Inside J X → all (satisfies J) (flpReduct X (normalRules P)) ≡ true → Inside X J
-  settled-minimal S J i s a e = derived-least P w X .least J closed a (sym (S .stable a) ∙ e)
+  stable-minimal : StableModel P X → (J : State) → Inside J X → all (satisfies J) (flpReduct X (normalRules P)) ≡ true → Inside X J
+  stable-minimal S J i s a e = derived-least P w X .least J closed a (sym (S .fixpoint a) ∙ e)
     where
       closed : Closed (next P X) J
       closed c d =
@@ -139,12 +140,12 @@ module _ (P : Program) (w : wellFormed P ≡ true) (X : State) where
           (models-out X J (normalRules P) s (h .rule) (rule-in P (h .rule) (h .stands)) (holds-in X (h .rule .body) below (h .negatives))
           (holds-in J (h .rule .body) (h .positives) (outside-less J X i (h .rule .body .neg) (h .negatives))))
 
-  pub settled-answer : Settled P X → IsAnswerSet P X
-  settled-answer S =
+  pub stable-answer : StableModel P X → IsAnswerSet P X
+  stable-answer S =
       record {
         within = λ a e. let l = S .within a e in omega arith;
-        model = models-in X X (normalRules P) (λ r m h _. settled-model S r m h);
-        minimal = settled-minimal S;
+        model = models-in X X (normalRules P) (λ r m h _. stable-model S r m h);
+        minimal = stable-minimal S;
       }
 
   module _ (A : IsAnswerSet P X) where
@@ -193,27 +194,27 @@ module _ (P : Program) (w : wellFormed P ≡ true) (X : State) where
         lawful-false : (b : Body) → List·Memᴰ b (P .constraints) → holds X b ≡ false
         lawful-false = lawful-out P X lawful-in
 
-    pub answer-settled : Settled P X
-    answer-settled =
+    pub answer-stable : StableModel P X
+    answer-stable =
         record {
           within = λ a e. let l = A .within a e in let ne : a ≡ P .atoms → ⊥ = λ q. true-false e (ap X q ∙ bottom-free) in omega arith;
-          stable = λ a. bool-ext (A .minimal (derived P X) derived-in derived-models a) (derived-in a);
+          fixpoint = λ a. bool-ext (A .minimal (derived P X) derived-in derived-models a) (derived-in a);
           obeys = lawful-in;
         }
 
   -- The two definitions agree.
-  pub settled-iff-answer : Settled P X ↔ IsAnswerSet P X
-  settled-iff-answer = (settled-answer, answer-settled)
+  pub stable-iff-answer : StableModel P X ↔ IsAnswerSet P X
+  stable-iff-answer = (stable-answer, answer-stable)
 
   -- The test for a set of the program's atoms.
-  pub test-in : Settled P X → isSettled P X ≡ true
-  unfolding isSettled
-  test-in S = and-intro (all-intro (λ a. Bool·beq (X a) (derived P X a)) (range 0 (P .atoms)) (λ a m. beq-in (X a) (derived P X a) (S .stable a))) (S .obeys)
+  pub test-in : StableModel P X → isStable P X ≡ true
+  unfolding isStable
+  test-in S = and-intro (all-intro (λ a. Bool·beq (X a) (derived P X a)) (range 0 (P .atoms)) (λ a m. beq-in (X a) (derived P X a) (S .fixpoint a))) (S .obeys)
 
-  pub test-out : ((a : ℕ) → X a ≡ true → a < P .atoms) → isSettled P X ≡ true → Settled P X
-  unfolding isSettled
+  pub test-out : ((a : ℕ) → X a ≡ true → a < P .atoms) → isStable P X ≡ true → StableModel P X
+  unfolding isStable
   test-out within t =
-      record { within = within; stable = stable; obeys = and-right (all agree (range 0 (P .atoms))) (lawful P X) t }
+      record { within = within; fixpoint = fixpoint; obeys = and-right (all agree (range 0 (P .atoms))) (lawful P X) t }
     where
       agree : ℕ → Bool
       agree a = Bool·beq (X a) (derived P X a)
@@ -223,5 +224,5 @@ module _ (P : Program) (w : wellFormed P ≡ true) (X : State) where
           beq-out (X a) (derived P X a)
           (all-at agree (range 0 (P .atoms)) (and-left (all agree (range 0 (P .atoms))) (lawful P X) t) a (range-in 0 (P .atoms) a (omega arith) (omega arith)))
 
-      stable : (a : ℕ) → X a ≡ derived P X a
-      stable a = bool-ext (λ e. sym (same a (within a e)) ∙ e) (λ e. same a (derived-within P w X a e) ∙ e)
+      fixpoint : (a : ℕ) → X a ≡ derived P X a
+      fixpoint a = bool-ext (λ e. sym (same a (within a e)) ∙ e) (λ e. same a (derived-within P w X a e) ∙ e)

@@ -1,4 +1,4 @@
--- The number of settled states, and the verdict.
+-- The number of stable models, and the verdict.
 use mathlib.Core.Bool.{false, _||_}
 use mathlib.Core.List.{List, [], _∷_, _++_, map, List·Memᴰ, List·Nodup}
 use Prim.Native.Nat.{ℕ, zero, suc}
@@ -6,7 +6,7 @@ use lib.Dec.{eqb}
 use lib.ListN.{length}
 use Rattle.lists.specs.Lists.{filter}
 use Rattle.asp.specs.Program.{Program, State}
-use Rattle.asp.specs.Settled.{isSettled}
+use Rattle.asp.specs.StableModel.{isStable}
 
 -- The empty state.
 unfoldable pub empty : State
@@ -21,9 +21,9 @@ unfoldable pub states : ℕ → List State
 states zero = empty ∷ []
 states (suc n) = states n ++ map (with n) (states n)
 
--- The settled states of the program.
-unfoldable pub settledStates : Program → List State
-settledStates P = filter (isSettled P) (states (P .atoms))
+-- The stable models of the program.
+unfoldable pub stableModels : Program → List State
+stableModels P = filter (isStable P) (states (P .atoms))
 
 -- The list has exactly the states with the property, each once.
 pub record Enumerates (S : State → Type 0) (L : List State) : Type 0 where
@@ -33,7 +33,7 @@ pub record Enumerates (S : State → Type 0) (L : List State) : Type 0 where
 
 -- The count.
 unfoldable pub count : Program → ℕ
-count P = length (settledStates P)
+count P = length (stableModels P)
 
 -- The verdict.
 pub data Verdict : Type 0 where

@@ -17,23 +17,14 @@ unfoldable pub consequences : List Definite → State → State
 consequences D L a = any (λ d. eqb (d .head) a && all L (d .pos)) D
 
 -- What k rounds of an operator make of the empty set.
-unfoldable pub rounds : (State → State) → ℕ → State
-rounds f zero a = false
-rounds f (suc k) a = f (rounds f k) a
+unfoldable pub iterate : (State → State) → ℕ → State
+iterate f zero a = false
+iterate f (suc k) a = f (iterate f k) a
 
 -- The least model of a definite program whose heads are below n: after n rounds nothing is added.
 unfoldable pub leastModel : ℕ → List Definite → State
-leastModel n D = rounds (consequences D) n
-
--- What an operator makes of L lies in L.
-abbrev pub Closed : (State → State) → State → Type 0
-Closed f L = (a : ℕ) → f L a ≡ true → L a ≡ true
+leastModel n D = iterate (consequences D) n
 
 -- X lies in Y.
 abbrev pub Inside : State → State → Type 0
 Inside X Y = (a : ℕ) → X a ≡ true → Y a ≡ true
-
--- L is the least of the sets that the operator leaves closed.
-pub record Least (f : State → State) (L : State) : Type 0 where
-  pub closed : Closed f L
-  pub least : (Y : State) → Closed f Y → Inside L Y

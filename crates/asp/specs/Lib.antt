@@ -1,7 +1,7 @@
 pub mod Program
 pub mod LeastModel
-pub mod Settled
+pub mod Least
+pub mod StableModel
 pub mod AnswerSet
 pub mod Count
 pub mod Claims
-pub mod Decided

@@ -14,7 +14,7 @@ use lib.ListN.{length}
 use Rattle.lists.specs.Lists.{filter, range}
 use Rattle.lists.proofs.Bools.{by-bool, bool-ext, and-left, and-right}
 use Rattle.lists.proofs.Members.{filter-cong}
-use Rattle.bits.specs.Sets.{has, With, WithIf, Without, Subset, Difference}
+use Rattle.bits.specs.inner.Sets.{has, With, WithIf, Without, Subset, Difference}
 
 -- What holds at 0 and 1 holds of two digits.
 digits-ind : (P : ℕ → ℕ → Type 0) → P 0 0 → P 0 1 → P 1 0 → P 1 1 → (p q : ℕ) → p < 2 → q < 2 → P p q
@@ -78,13 +78,13 @@ less-has x y a =
     ∙ differ-is (u % 2) (v % 2) (digit u) (digit v))
 
 -- Digits above the lowest.
-has-half : (x a : ℕ) → has x (suc a) ≡ has (x / 2) a
+pub has-half : (x a : ℕ) → has x (suc a) ≡ has (x / 2) a
 has-half x a = ap (λ n. eqb (n % 2) 1) (ap (λ k. x / 2 ^ k) (let e : suc a ≡ 1 + a = omega arith in e) ∙ sym (shr-shr x 1 a))
 
-has-lowest : (x : ℕ) → has x 0 ≡ eqb (x % 2) 1
+pub has-lowest : (x : ℕ) → has x 0 ≡ eqb (x % 2) 1
 has-lowest x = ap (λ n. eqb (n % 2) 1) (div-one x)
 
-half-small : (x k : ℕ) → x < 2 ^ suc k → x / 2 < 2 ^ k
+pub half-small : (x k : ℕ) → x < 2 ^ suc k → x / 2 < 2 ^ k
 half-small x k l = div-lt-iff-lt-mul (zero-lt-suc 1) .1 (subst (λ n. x < n) (pow-suc 2 k) l)
 
 digit-same : (p q : ℕ) → p < 2 → q < 2 → eqb p 1 ≡ eqb q 1 → p ≡ q

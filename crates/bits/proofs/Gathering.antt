@@ -10,7 +10,7 @@ use lib.ListN.{length, getD, drop, drop-of-length-le}
 use lib.Seq.{drop-cons}
 use Rattle.lists.specs.Lists.{all, any, below, member}
 use Rattle.lists.proofs.Bools.{and-left, and-right}
-use Rattle.bits.specs.Sets.{has, With, ByteAt, Gathered}
+use Rattle.bits.specs.inner.Sets.{has, With, ByteAt, Gathered}
 use Rattle.bits.proofs.Digits.{zero-has}
 
 pub record Gathering (l : List ℕ) (i x : ℕ) : Type 0 where

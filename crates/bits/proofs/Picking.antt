@@ -6,7 +6,7 @@ use native.Mathlib.Omega.{arith}
 use borrow.Author.Tests.{eqb-true, eqb-false, eq-eqb, ne-eqb, lt-ltb, le-ltb, ltb-true}
 use lib.Dec.{eqb, ltb}
 use Rattle.lists.proofs.Bools.{by-bool, bool-ext}
-use Rattle.bits.specs.Sets.{has, WithIf}
+use Rattle.bits.specs.inner.Sets.{has, WithIf}
 use Rattle.bits.proofs.Digits.{zero-has, skips}
 
 -- The numbers below p of which the test holds.

@@ -2,10 +2,11 @@
 ghost use mathlib.Core.Path.{_≡_};
 ghost use mathlib.Core.Bool.{true};
 ghost use Prim.Native.Nat.{_+_, _≤_, _<_};
-ghost use Rattle.bits.specs.Sets.{has, With, WithIf, Without, ByteAt, Gathered, Subset, Both, Either, Difference, Size};
-ghost use Rattle.bits.specs.Listed.{Listing};
+ghost use Rattle.bits.specs.inner.Sets.{has, With, WithIf, Without, ByteAt, Gathered, Subset, Both, Either, Difference, Size};
+ghost use Rattle.bits.specs.inner.Listed.{Listing};
+ghost use Rattle.bits.specs.inner.Visited.{listed, Lowest, Rest};
 ghost use lib.ListN.{length};
-ghost use Rattle.lists.specs.Lists.{below, filter, range};
+ghost use Rattle.lists.specs.Lists.{below};
 
 // Is a in the set?
 pub fn has(x: u64, a: usize) -> bool
@@ -106,41 +107,41 @@ pub fn without(x: u64, a: usize) -> u64
     difference(x, with(0, a))
 }
 
+// The smallest atom of a set.
+pub fn lowest(x: u64) -> usize
+    requires { ⌜ 0 < x ⌝ }
+    ensures { λ r. ⌜ Lowest x r ⌝ }
+{
+    u64::trailing_zeros(x) as usize
+}
+
+// The set without its smallest atom.
+pub fn rest(x: u64) -> u64
+    requires { ⌜ 0 < x ⌝ }
+    ensures { λ r. ⌜ Rest x r ⌝ }
+{
+    x & (x - 1)
+}
+
 // At most 16 atoms, listed.
 pub struct Atoms {
     pub atoms: [u8; 16],
     pub t: usize,
 }
 
-impl Atoms {
-    // With a, where it is in the set.
-    fn add(self, x: u64, a: usize) -> Atoms
-        requires { ⌜ (a < 64) × Listing x self a ⌝ }
-        ensures { λ r. ⌜ Listing x r (a + 1) ⌝ }
-    {
-        if has(x, a) {
-            let t = self.t;
-            let mut atoms = self.atoms;
-            atoms[t] = (a % 256) as u8;
-            return Atoms { atoms, t: t + 1 };
-        }
-        self
-    }
-}
-
 // The atoms of a set of at most 16.
-pub fn listed(x: u64) -> Atoms
-    requires { ⌜ length (filter (has x) (range 0 64)) ≤ 16 ⌝ }
-    ensures { λ r. ⌜ Listing x r 64 ⌝ }
+pub fn list_set(x: u64) -> Atoms
+    requires { ⌜ length (listed x) ≤ 16 ⌝ }
+    ensures { λ r. ⌜ Listing x r ⌝ }
 {
-    let mut list = Atoms {
-        atoms: [0; 16],
-        t: 0,
-    };
-    let mut a = 0;
-    while a < 64 {
-        list = list.add(x, a);
-        a += 1;
+    let mut atoms = [0u8; 16];
+    let mut t = 0;
+    let mut left = x;
+    while 0 < left {
+        let a = lowest(left);
+        atoms[t] = (a % 256) as u8;
+        t += 1;
+        left = rest(left);
     }
-    list
+    Atoms { atoms, t }
 }

@@ -1,151 +1,117 @@
 -- Laws of the chain question, component by component.
 use mathlib.Core.Bool.{Bool, true, false, _&&_}
 use mathlib.Core.List.{List, [], _∷_, List·Memᴰ, List·Memᴰ·head, List·Memᴰ·tail, List·Memᴰ·not-nil, List·Memᴰ·eq-of-singleton, Sublistᴰ}
-use mathlib.Core.Path.{_≡_, refl, sym, _∙_, ap, subst}
+use mathlib.Core.Path.{_≡_, refl, sym, _∙_, subst}
 use Prim.Native.Nat.{ℕ, _+_, _-_, _≤_, _<_}
 use native.Mathlib.Omega.{arith}
-use borrow.Author.Tests.{eqb-true, eqb-false, eq-eqb, ltb-true, lt-ltb, leb-true}
-use lib.Dec.{eqb, ltb, leb}
+use borrow.Author.Tests.{eqb-true, eqb-false, eq-eqb, ltb-true, lt-ltb}
+use lib.Dec.{eqb, ltb}
 use lib.ListN.{length, getD, take, drop, length-drop}
 use lib.Seq.{take-all}
 use Rattle.lists.specs.Lists.{below, filter, range}
 use Rattle.lists.proofs.Bools.{by-bool, true-false, is-false, and-intro, and-left, and-right}
-use Rattle.lists.proofs.Members.{all-at, below-at, below-in, member-out, member-in, filter-cong, filter-in, filter-out, filter-range, range-in, range-out}
+use Rattle.lists.proofs.Members.{below-at, below-more, member-out, member-in, filter-in, range-in}
 use Rattle.lists.proofs.Nodup.{nodup-head}
 use Rattle.lists.proofs.Sublists.{sublist-mem, mem-sublist}
 use Rattle.asp.specs.Program.{Program, wellFormed}
-use Rattle.unfolding.specs.Graph.{together, component}
+use Rattle.unfolding.specs.Graph.{component}
 use Rattle.unfolding.specs.Chain.{Chain, passes}
-use Rattle.unfolding.specs.Default.{members}
-use Rattle.unfolding.proofs.Reach.{together-refl, together-below, component-together, component-smallest, component-same, component-joins}
+use Rattle.unfolding.proofs.Reach.{same-refl, same-below, component-smallest, component-same, component-joins}
 use Rattle.unfolding.proofs.Chains.{component-at, chain-one, passes-iff}
-use Rattle.bits.specs.Sets.{has, Gathered}
-use Rattle.bits.specs.Listed.{Listing}
+use Rattle.bits.specs.inner.Sets.{has, Gathered, Size, Subset}
+use Rattle.bits.specs.inner.Listed.{Listing}
+use Rattle.bits.specs.inner.Visited.{listed}
 use Rattle.bits.specs.declared.Atoms.{Atoms}
 use Rattle.bits.proofs.Listing.{listed-has, listed-place, listed-apart}
-use Rattle.sheet.specs.Sheet.{Record, Walk, recordsFrom, programOf}
-use Rattle.sheet.proofs.Walk.{walk-formed}
-use Rattle.components.specs.Table.{Holds, links, NamesOf, named, componentsFit}
-use Rattle.components.proofs.Components.{links-edges, named-members}
-use Rattle.chains.specs.Table.{Setting, Tested, Members, Graph, ComponentTested}
+use Rattle.chains.specs.inner.Subsets.{Setting, Tested, Edged, Members, ComponentTested, SetTested, Graph, Small, PassesBy}
 
--- A component's atoms, as a set.
-module _ (names : List ℕ) (n c x : ℕ) (M : Members names n c x) where
-  member-low : (a : ℕ) → has x a ≡ true → a < n
-  member-low a t = ltb-true a n (and-left (ltb a n) (eqb (getD names a 0) c) (sym (M .members a) ∙ t))
+-- A component's atoms, listed.
+module _ (x : ℕ) (L : Atoms) (S : Listing x L) (P : Program) (c : ℕ) (rows : List ℕ) (G : Edged P rows) (M : Members P c x) where
+  abbrev atom : ℕ → ℕ
+  atom p = getD (L .atoms) p 0
 
-  members-named : n ≤ 64 → filter (has x) (range 0 64) ≡ named names c n
-  unfolding named
-  members-named l =
-      filter-range (has x) n 64 l member-low
-      ∙ filter-cong (has x) (λ a. eqb (getD names a 0) c) (range 0 n) (λ a m. let r = range-out 0 n a m in M .members a ∙ ap (λ (b : Bool). b && eqb (getD names a 0) c) (lt-ltb a n (omega (arith, r .high))))
+  member-low : (a : ℕ) → has x a ≡ true → a < P .atoms
+  member-low a t = ltb-true a (P .atoms) (and-left (ltb a (P .atoms)) (eqb (component P a) c) (sym (M .members a) ∙ t))
 
-  pub members-few : n ≤ 64 → length (named names c n) ≤ 10 → length (filter (has x) (range 0 64)) ≤ 16
-  members-few l s = let e = ap length (members-named l) in omega arith
+  atom-low : (p : ℕ) → p < L .t → atom p < P .atoms
+  atom-low p l = member-low (atom p) (listed-has x L S p l)
 
-  module _ (L : Atoms) (S : Listing x L 64) (low : n ≤ 64) where
-    pub places-few : length (named names c n) ≤ 10 → L .t ≤ 10
-    places-few s = let e = ap length (members-named low) in let f = S .size in omega arith
+  atom-named : (p : ℕ) → p < L .t → component P (atom p) ≡ c
+  atom-named p l = eqb-true (component P (atom p)) c (and-right (ltb (atom p) (P .atoms)) (eqb (component P (atom p)) c) (sym (M .members (atom p)) ∙ listed-has x L S p l))
 
-    module _ (P : Program) (rows : List ℕ) (G : Graph P n rows names) where
-      abbrev atom : ℕ → ℕ
-      atom p = getD (L .atoms) p 0
+  named-place : (a : ℕ) → a < P .atoms → component P a ≡ c → (p : ℕ) × (p < L .t) × (atom p ≡ a)
+  named-place a l e = let h = G .low in listed-place x L S a (omega arith) (M .members a ∙ and-intro (lt-ltb a (P .atoms) l) (eq-eqb (component P a) c e))
 
-      atom-low : (p : ℕ) → p < L .t → atom p < P .atoms
-      atom-low p l = subst (λ k. atom p < k) (sym (G .size)) (member-low (atom p) (listed-has x L S p l))
+  setting : Setting P rows (L .atoms) (L .t)
+  setting =
+      record {
+        formed = G .formed;
+        edges = G .edges;
+        low = atom-low;
+        apart = listed-apart x L S;
+        joined = λ p q l m. component-joins P (G .formed) (atom p) (atom q) (atom-low p l) (atom-low q m) (atom-named p l ∙ sym (atom-named q m));
+        whole = λ p l b t. named-place b (same-below P (G .formed) (atom p) b (atom-low p l) t) (sym (component-same P (G .formed) (atom p) b (atom-low p l) t) ∙ atom-named p l);
+      }
 
-      atom-named : (p : ℕ) → p < L .t → component P (atom p) ≡ c
-      atom-named p l =
-          sym (G .named .name (atom p) (atom-low p l)) ∙ eqb-true (getD names (atom p) 0) c (and-right (ltb (atom p) n) (eqb (getD names (atom p) 0) c) (sym (M .members (atom p)) ∙ listed-has x L S p l))
-
-      named-place : (a : ℕ) → a < P .atoms → component P a ≡ c → (p : ℕ) × (p < L .t) × (atom p ≡ a)
-      named-place a l e =
-          let h = G .size in
-          listed-place x L S a (omega arith) (M .members a ∙ and-intro (lt-ltb a n (omega arith)) (eq-eqb (getD names a 0) c (G .named .name a l ∙ e)))
-
-      setting : Setting P rows (L .atoms) (L .t)
-      setting =
-          record {
-            formed = G .formed;
-            edges = G .edges;
-            low = atom-low;
-            apart = listed-apart x L S;
-            joined = λ p q l m. component-joins P (G .formed) (atom p) (atom q) (atom-low p l) (atom-low q m) (atom-named p l ∙ sym (atom-named q m));
-            whole = λ p l b t. named-place b (below-one p l b t) (sym (component-same P (G .formed) (atom p) b (atom-low p l) t) ∙ atom-named p l);
-          }
-        where
-          below-one : (p : ℕ) → p < L .t → (b : ℕ) → together P (atom p) b ≡ true → b < P .atoms
-          below-one p l b t = together-below P (G .formed) (atom p) b (atom-low p l) t
-
-      pub component-tested : (s : List ℕ) (r : Bool) → Tested rows (L .atoms) (L .t) s r → ComponentTested P c s r
-      component-tested s r T = record { is = (there, back) }
-        where
-          there : r ≡ true → (a : ℕ) (w : List ℕ) → Chain P (a ∷ w) → component P a ≡ c → Sublistᴰ (a ∷ w) s
-          there t a w C e =
-              let u = named-place a (below-at (P .atoms) (a ∷ w) (C .atoms) a (List·Memᴰ·head refl)) e in
-              subst (λ b. Sublistᴰ (b ∷ w) s) (u .2) (T .is P setting .0 t (u .0) (u .1) w (subst (λ b. Chain P (b ∷ w)) (sym (u .2)) C))
-
-          back : ((a : ℕ) (w : List ℕ) → Chain P (a ∷ w) → component P a ≡ c → Sublistᴰ (a ∷ w) s) → r ≡ true
-          back h = T .is P setting .1 (λ p l w C. h (atom p) w C (atom-named p l))
-
--- A component without atoms has no chains, and one of a single atom has one.
-module _ (names : List ℕ) (n c : ℕ) (P : Program) (rows : List ℕ) (G : Graph P n rows names) where
-  named-in : (a : ℕ) → a < P .atoms → component P a ≡ c → List·Memᴰ a (named names c n)
-  unfolding named
-  named-in a l e =
-      let h = G .size in
-      filter-in (λ a. eqb (getD names a 0) c) (range 0 n) a (range-in 0 n a (omega arith) (omega arith)) (eq-eqb (getD names a 0) c (G .named .name a l ∙ e))
-
-  chain-named : (a : ℕ) (w : List ℕ) → Chain P (a ∷ w) → component P a ≡ c → (b : ℕ) → List·Memᴰ b (a ∷ w) → List·Memᴰ b (named names c n)
-  chain-named a w C e b m =
-      let low = below-at (P .atoms) (a ∷ w) (C .atoms) in
-      named-in b (low b m) (sym (component-same P (G .formed) a b (low a (List·Memᴰ·head refl)) (component-at P (a ∷ w) C a b (List·Memᴰ·head refl) m)) ∙ e)
-
-  pub component-none : (s : List ℕ) (size : ℕ) → size ≡ length (named names c n) → size ≡ 0 → ComponentTested P c s true
-  component-none s size e z =
-      record { is = (λ _ a w C g. absurd (nothing (named names c n) (chain-named a w C g a (List·Memᴰ·head refl)) (sym e ∙ z)), λ _. refl) }
+  component-tested : (s : List ℕ) (r : Bool) → Tested rows (L .atoms) (L .t) s r → ComponentTested P c s r
+  component-tested s r T = record { is = (there, back) }
     where
-      nothing : (l : List ℕ) {a : ℕ} → List·Memᴰ a l → length l ≡ 0 → ⊥
-      nothing [] m z = List·Memᴰ·not-nil m
-      nothing (x ∷ l) m z = omega arith
+      there : r ≡ true → (a : ℕ) (w : List ℕ) → Chain P (a ∷ w) → component P a ≡ c → Sublistᴰ (a ∷ w) s
+      there t a w C e =
+          let u = named-place a (below-at (P .atoms) (a ∷ w) (C .atoms) a (List·Memᴰ·head refl)) e in
+          subst (λ b. Sublistᴰ (b ∷ w) s) (u .2) (T .is P setting .0 t (u .0) (u .1) w (subst (λ b. Chain P (b ∷ w)) (sym (u .2)) C))
 
-  module _ (one : length (named names c n) ≡ 1) where
-    only : (l : List ℕ) → length l ≡ 1 → (x : ℕ) × List·Memᴰ x l × ((y : ℕ) → List·Memᴰ y l → y ≡ x)
-    only [] e = absurd (omega arith)
-    only (x ∷ []) e = (x, List·Memᴰ·head refl, λ y m. List·Memᴰ·eq-of-singleton m)
-    only (x ∷ y ∷ l) e = absurd (omega arith)
+      back : ((a : ℕ) (w : List ℕ) → Chain P (a ∷ w) → component P a ≡ c → Sublistᴰ (a ∷ w) s) → r ≡ true
+      back h = T .is P setting .1 (λ p l w C. h (atom p) w C (atom-named p l))
 
-    alone : (a b : ℕ) → List·Memᴰ a (named names c n) → List·Memᴰ b (named names c n) → a ≡ b
-    alone a b m k = let u = only (named names c n) one in u .2 a m ∙ sym (u .2 b k)
+module _ (x : ℕ) (L : Atoms) (S : Listing x L) where
+  pub places-few : length (listed x) ≤ 10 → L .t ≤ 10
+  places-few l = let e = S .size in omega arith
 
-    -- The atom is the component's name.
-    own : (c < P .atoms) × (component P c ≡ c)
-    unfolding named
-    own =
-        let u = only (named names c n) one in
-        let x = u .0 in
-        let m = filter-out (λ a. eqb (getD names a 0) c) (range 0 n) x (u .1) in
-        let low : x < P .atoms = let h = G .size in let r = range-out 0 n x (m .0) in omega (arith, r .high) in
-        let e : component P x ≡ c = sym (G .named .name x low) ∙ eqb-true (getD names x 0) c (m .1) in
-        let t = subst (λ y. together P x y ≡ true) e (component-together P (G .formed) x low) in
-        (together-below P (G .formed) x c low t, sym (component-same P (G .formed) x c low t) ∙ e)
+  pub set-tested : (rows s : List ℕ) (r : Bool) → Tested rows (L .atoms) (L .t) s r → SetTested rows x s r
+  set-tested rows s r T = record { is = λ P c G M. component-tested x L S P c rows G M s r T }
 
-    alone-chain : (a : ℕ) (w : List ℕ) → Chain P (a ∷ w) → component P a ≡ c → a ∷ w ≡ c ∷ []
-    alone-chain a [] C e = ap (λ y. y ∷ []) (alone a c (chain-named a [] C e a (List·Memᴰ·head refl)) (named-in c (own .0) (own .1)))
-    alone-chain a (b ∷ w) C e =
-        absurd (nodup-head (C .different) (List·Memᴰ·head (alone a b (chain-named a (b ∷ w) C e a (List·Memᴰ·head refl)) (chain-named a (b ∷ w) C e b (List·Memᴰ·tail (List·Memᴰ·head refl))))))
+-- A component of at most one atom has no chain but that atom.
+one-of : (l : List ℕ) → length l ≤ 1 → (a b : ℕ) → List·Memᴰ a l → List·Memᴰ b l → a ≡ b
+one-of [] e a b m k = absurd (List·Memᴰ·not-nil m)
+one-of (y ∷ []) e a b m k = List·Memᴰ·eq-of-singleton m ∙ sym (List·Memᴰ·eq-of-singleton k)
+one-of (y ∷ z ∷ l) e a b m k = absurd (omega arith)
 
-  pub component-alone : (s : List ℕ) (size x : ℕ) (b : Bool) → size ≡ length (named names c n) → size ≡ 1 → Gathered s x → b ≡ has x c → ComponentTested P c s b
-  component-alone s size x b e z K f =
+module _ (x size : ℕ) (Z : Size x size) (one : size ≤ 1) (P : Program) (c : ℕ) (rows : List ℕ) (G : Edged P rows) (M : Members P c x) where
+  inside : (a : ℕ) → a < P .atoms → component P a ≡ c → has x a ≡ true
+  inside a l e = M .members a ∙ and-intro (lt-ltb a (P .atoms) l) (eq-eqb (component P a) c e)
+
+  alone : (a b : ℕ) → a < P .atoms → component P a ≡ c → b < P .atoms → component P b ≡ c → a ≡ b
+  alone a b la ea lb eb = let h = G .low in one-of (filter (has x) (range 0 64)) (let e = Z .is in omega arith) a b (in-list a la ea) (in-list b lb eb)
+    where
+      in-list : (a : ℕ) → a < P .atoms → component P a ≡ c → List·Memᴰ a (filter (has x) (range 0 64))
+      in-list a l e = let h = G .low in filter-in (has x) (range 0 64) a (range-in 0 64 a (omega arith) (omega arith)) (inside a l e)
+
+  found-alone : (s : List ℕ) (e : ℕ) (b : Bool) → Gathered s e → Subset x e b → b ≡ true → (a : ℕ) (w : List ℕ) → Chain P (a ∷ w) → component P a ≡ c → Sublistᴰ (a ∷ w) s
+  found-alone s e b K B t a [] C g =
+      let low = below-at (P .atoms) (a ∷ []) (C .atoms) a (List·Memᴰ·head refl) in
+      sublist-mem (member-out a s (sym (K .members a) ∙ B .inside t a (inside a low g)))
+  found-alone s e b K B t a (d ∷ w) C g =
+      let low = below-at (P .atoms) (a ∷ d ∷ w) (C .atoms) in
+      let la = low a (List·Memᴰ·head refl) in
+      let ld = low d (List·Memᴰ·tail (List·Memᴰ·head refl)) in
+      let gd = sym (component-same P (G .formed) a d la (component-at P (a ∷ d ∷ w) C a d (List·Memᴰ·head refl) (List·Memᴰ·tail (List·Memᴰ·head refl)))) ∙ g in
+      absurd (nodup-head (C .different) (List·Memᴰ·head (alone a d la g ld gd)))
+
+  alone-tested : (s : List ℕ) (e : ℕ) (b : Bool) → Gathered s e → Subset x e b → ComponentTested P c s b
+  alone-tested s e b K B =
       record {
         is = (
-          λ t a w C g. subst (λ l. Sublistᴰ l s) (sym (alone-chain one a w C g)) (sublist-mem (member-out c s (sym (K .members c) ∙ (sym f ∙ t)))),
-          λ h. f ∙ (K .members c ∙ member-in c s (mem-sublist (h c [] (chain-one P (G .formed) c (own one .0)) (own one .1)) (List·Memᴰ·head refl))),
+          found-alone s e b K B,
+          λ h. B .all-inside (λ a t.
+              let u = sym (M .members a) ∙ t in
+              let low = ltb-true a (P .atoms) (and-left (ltb a (P .atoms)) (eqb (component P a) c) u) in
+              K .members a ∙ member-in a s (mem-sublist (h a [] (chain-one P (G .formed) a low) (eqb-true (component P a) c (and-right (ltb a (P .atoms)) (eqb (component P a) c) u))) (List·Memᴰ·head refl))),
         );
       }
-    where
-      one : length (named names c n) ≡ 1
-      one = sym e ∙ z
+
+pub set-alone : (rows s : List ℕ) (x size e : ℕ) (b : Bool) → Size x size → size ≤ 1 → Gathered s e → Subset x e b → SetTested rows x s b
+set-alone rows s x size e b Z one K B = record { is = λ P c G M. alone-tested x size Z one P c rows G M s e b K B }
 
 -- The components named below c.
 pub record Sofar (P : Program) (s : List ℕ) (c : ℕ) : Type 0 where
@@ -170,40 +136,32 @@ module _ (P : Program) (wf : wellFormed P ≡ true) (s : List ℕ) where
       found [] C = absurd (C .some refl)
       found (a ∷ w) C =
           let low = below-at (P .atoms) (a ∷ w) (C .atoms) a (List·Memᴰ·head refl) in
-          let m = component-smallest P wf a a low (together-refl P wf a low) in
+          let m = component-smallest P wf a a low (same-refl P wf a low) in
           F .found a w C (omega arith)
 
--- The same for the records of a sheet.
-module _ (s : List ℕ) (n m : ℕ) (W : Walk s n m 5) (entries : List ℕ) where
-  pub passes-start : Sofar (programOf n (recordsFrom m s 5)) entries 0
-  passes-start = sofar-start (programOf n (recordsFrom m s 5)) (walk-formed s n m W) entries
+-- The same for every program with this graph.
+pub record Asking (n : ℕ) (rows sets s : List ℕ) (c : ℕ) : Type 0 where
+  pub sofar : (P : Program) → Graph P n rows sets → Sofar P s c
 
-  module _ (rows names : List ℕ) (H : Holds n (links (recordsFrom m s 5)) rows) (N : NamesOf (programOf n (recordsFrom m s 5)) names) where
-    graph : Graph (programOf n (recordsFrom m s 5)) n rows names
-    unfolding programOf
-    graph = record { formed = walk-formed s n m W; size = refl; edges = λ a l b. H .bits a l b ∙ links-edges n (recordsFrom m s 5) a b; named = N }
+module _ (n : ℕ) (rows sets s : List ℕ) where
+  pub asking-start : Asking n rows sets s 0
+  asking-start = record { sofar = λ P G. sofar-start P (G .edged .formed) s }
 
-    module _ (c : ℕ) (b : Bool) (K : (P : Program) → Graph P n rows names → ComponentTested P c entries b) where
-      pub passes-turn : Sofar (programOf n (recordsFrom m s 5)) entries c → b ≡ true → Sofar (programOf n (recordsFrom m s 5)) entries (c + 1)
-      passes-turn F = sofar-turn (programOf n (recordsFrom m s 5)) (walk-formed s n m W) entries c b F (K (programOf n (recordsFrom m s 5)) graph)
+  module _ (c : ℕ) (b : Bool) (A : Asking n rows sets s c) (l : c < n) (low : n ≤ 64) (T : SetTested rows (getD sets c 0) s b) where
+    tested : (P : Program) → Graph P n rows sets → ComponentTested P c s b
+    tested P G = T .is P c (G .edged) (G .grouped c (omega arith))
 
-      pub passes-fails : b ≡ false → false ≡ passes (programOf n (recordsFrom m s 5)) entries
-      passes-fails = sofar-fails (programOf n (recordsFrom m s 5)) (walk-formed s n m W) entries c b (K (programOf n (recordsFrom m s 5)) graph)
+    pub asking-turn : b ≡ true → Asking n rows sets s (c + 1)
+    asking-turn t = record { sofar = λ P G. sofar-turn P (G .edged .formed) s c b (A .sofar P G) (tested P G) t }
 
-  pub passes-end : (c : ℕ) → Sofar (programOf n (recordsFrom m s 5)) entries c → n ≤ c → true ≡ passes (programOf n (recordsFrom m s 5)) entries
-  unfolding programOf
-  passes-end c F l = sofar-end (programOf n (recordsFrom m s 5)) (walk-formed s n m W) entries c F l
+    pub asking-fails : b ≡ false → PassesBy n rows sets s false
+    asking-fails f = record { is = λ P G. sofar-fails P (G .edged .formed) s c b (tested P G) f }
 
--- What the code asks on the way.
-pub component-few : (n : ℕ) (rs : List Record) (names : List ℕ) (c : ℕ) → NamesOf (programOf n rs) names → componentsFit 10 (programOf n rs) ≡ true → c < n → length (named names c n) ≤ 10
-unfolding componentsFit programOf
-component-few n rs names c N F l =
-    let fits = leb-true (length (members (programOf n rs) c)) 10 (all-at (λ c. leb (length (members (programOf n rs) c)) 10) (range 0 n) F c (range-in 0 n c (omega arith) (omega arith))) in
-    let same = ap length (named-members (programOf n rs) names N c) in
-    omega arith
+  pub asking-end : (c : ℕ) → Asking n rows sets s c → n ≤ c → PassesBy n rows sets s true
+  asking-end c A l = record { is = λ P G. sofar-end P (G .edged .formed) s c (A .sofar P G) (let e = G .size in omega arith) }
 
-pub below-64 : (n : ℕ) (l : List ℕ) → n ≤ 64 → below n l ≡ true → below 64 l ≡ true
-below-64 n l h e = below-in 64 l (λ a m. let k = below-at n l e a m in omega arith)
+pub few-atoms : (n : ℕ) (sets : List ℕ) (c : ℕ) → Small n sets → c < n → length (listed (getD sets c 0)) ≤ 10
+few-atoms n sets c S l = S .few c l
 
 -- The entries behind the header, as the code has them.
 module _ (q : List ℕ) where
@@ -211,7 +169,7 @@ module _ (q : List ℕ) where
   behind = take-all (length q - 3) (drop 3 q) (let e = length-drop 3 q in omega arith)
 
   pub entries-low : (n : ℕ) → n ≤ 64 → below n (drop 3 q) ≡ true → below 64 (take (length q - 3) (drop 3 q)) ≡ true
-  entries-low n h e = rw behind (below-64 n (drop 3 q) h e)
+  entries-low n h e = rw behind (below-more n 64 (drop 3 q) h e)
 
   pub entries-gathered : (x : ℕ) → Gathered (take (length q - 3) (drop 3 q)) x → Gathered (drop 3 q) x
   entries-gathered x K = rw behind at K

@@ -10,10 +10,10 @@ use lib.Dec.{eqb}
 use lib.ListN.{getD}
 use lib.Pow.{pow-mono, pow-pos, shl-exact}
 use Rattle.lists.proofs.Bools.{by-bool}
-use Rattle.bits.specs.Sets.{has, WithIf}
-use Rattle.bits.specs.Listed.{Low}
+use Rattle.bits.specs.inner.Sets.{has, WithIf}
+use Rattle.bits.specs.inner.Listed.{Low}
 use Rattle.bits.proofs.Picking.{Picking, picking-start, picking-turn, picked}
-use Rattle.chains.specs.Table.{Followers, PlaceOf, Power, Members}
+use Rattle.chains.specs.inner.Subsets.{Followers, PlaceOf, Power}
 
 -- The places that x has edges to.
 abbrev pub Following : List ℕ → List ℕ → ℕ → ℕ → ℕ → Type 0
@@ -56,17 +56,3 @@ power-is k l =
     let e : 1 * 2 ^ k % 2 ^ 64 ≡ 2 ^ k = shl-exact {a = 1} 1 k 64 (omega arith) (omega arith) ∙ one-mul (2 ^ k) in
     let one = pow-pos k in
     record { is = e; some = omega arith; small = omega arith }
-
--- The atoms of a component.
-abbrev pub Naming : List ℕ → ℕ → ℕ → ℕ → Type 0
-Naming names c = Picking (λ a. eqb (getD names a 0) c)
-
-module _ (names : List ℕ) (n c : ℕ) where
-  pub naming-start : Naming names c 0 0
-  naming-start = picking-start (λ a. eqb (getD names a 0) c)
-
-  pub naming-turn : (a x d new : ℕ) → Naming names c a x → d ≡ getD names a 0 → WithIf x a (eqb d c) new → Naming names c (a + 1) new
-  naming-turn a x d new F e = picking-turn (λ a. eqb (getD names a 0) c) a x new (eqb d c) F (ap (λ y. eqb y c) e)
-
-  pub naming-end : (a x : ℕ) → Naming names c a x → a ≤ n → n ≤ a → Members names n c x
-  naming-end a x F l m = record { members = picked (λ a. eqb (getD names a 0) c) a n x F l m }

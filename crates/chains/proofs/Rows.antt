@@ -12,9 +12,9 @@ use lib.ListN.{length, getD, set, length-set}
 use lib.Pow.{pow-pos, pow-lt, shr-mono, split}
 use lib.Seq.{getD-set-same, getD-set-other}
 use Rattle.lists.proofs.Bools.{by-bool, true-false, and-intro, and-left, and-right, or-right}
-use Rattle.bits.specs.Sets.{has, With, Without, Subset, Both}
+use Rattle.bits.specs.inner.Sets.{has, With, Without, Subset, Both}
 use Rattle.bits.proofs.Digits.{or-has, or-grows, and-has, digits-same, power-has}
-use Rattle.chains.specs.Table.{RowAfter, NextWith, TableAfter, Power}
+use Rattle.chains.specs.inner.Subsets.{RowAfter, NextWith, TableAfter, Power}
 
 stays : (x e h : Bool) → x ≡ (x || e && (h && false))
 stays true e h = refl

@@ -15,20 +15,21 @@ use Rattle.lists.proofs.Bools.{by-bool, true-false, and-intro, and-left, and-ri
 use Rattle.lists.proofs.Members.{below-at, below-in}
 use Rattle.lists.proofs.Sublists.{mem-sublist}
 use Rattle.asp.specs.Program.{Program}
-use Rattle.unfolding.specs.Graph.{edge, together}
-use Rattle.unfolding.specs.Chain.{Chain, Started}
+use Rattle.unfolding.specs.Graph.{edge, sameComponent}
+use Rattle.unfolding.specs.Chain.{Chain}
+use Rattle.unfolding.specs.inner.Started.{Started}
 use Rattle.unfolding.proofs.Chains.{component-at}
 use Rattle.unfolding.proofs.Starting.{started-none, started-more, started-other, started-onward, started-own}
-use Rattle.bits.specs.Sets.{has, ByteAt, Subset}
+use Rattle.bits.specs.inner.Sets.{has, ByteAt, Subset}
 use Rattle.bits.proofs.Digits.{zero-has, full-has}
-use Rattle.chains.specs.Table.{Setting, AtPlaces, Table, RowAfter, TableAfter, Followers, PlaceOf, Power, Entered, Tested}
+use Rattle.chains.specs.inner.Subsets.{Setting, AtPlaces, SubsetTable, RowAfter, TableAfter, Followers, PlaceOf, Power, Entered, Tested}
 
 module _ (P : Program) (rows atoms : List ℕ) (k : ℕ) (K : Setting P rows atoms k) where
   abbrev atom : ℕ → ℕ
   atom p = getD atoms p 0
 
   -- Before the first entry nothing is found.
-  table-start : (sets : List ℕ) → ((S : ℕ) → S < 2 ^ k → getD sets S 0 ≡ 0) → Table P atoms k sets []
+  table-start : (sets : List ℕ) → ((S : ℕ) → S < 2 ^ k → getD sets S 0 ≡ 0) → SubsetTable P atoms k sets []
   table-start sets z =
       record {
         right = λ S l p m e. (
@@ -38,7 +39,7 @@ module _ (P : Program) (rows atoms : List ℕ) (k : ℕ) (K : Setting P rows ato
       }
 
   -- An entry of another atom.
-  table-other : (sets s : List ℕ) (x : ℕ) → ((q : ℕ) → q < k → getD atoms q 0 ≡ x → ⊥) → Table P atoms k sets s → Table P atoms k sets (x ∷ s)
+  table-other : (sets s : List ℕ) (x : ℕ) → ((q : ℕ) → q < k → getD atoms q 0 ≡ x → ⊥) → SubsetTable P atoms k sets s → SubsetTable P atoms k sets (x ∷ s)
   table-other sets s x none T =
       record {
         right = λ S l p m e. (
@@ -49,7 +50,7 @@ module _ (P : Program) (rows atoms : List ℕ) (k : ℕ) (K : Setting P rows ato
 
   -- An entry of the atom at place i.
   module _ (old new s : List ℕ) (x i after size : ℕ) (low : i < k) (is : getD atoms i 0 ≡ x) (F : Followers rows atoms k x after) (N : Power k size)
-      (A : TableAfter old size i after new) (T : Table P atoms k old s) where
+      (A : TableAfter old size i after new) (T : SubsetTable P atoms k old s) where
     follows : (q : ℕ) → q < k → edge P x (atom q) ≡ true → has after q ≡ true
     follows q l e = F .members q ∙ and-intro (lt-ltb q k l) (K .edges (atom q) (K .low q l) x ∙ e)
 
@@ -59,8 +60,8 @@ module _ (P : Program) (rows atoms : List ℕ) (k : ℕ) (K : Setting P rows ato
         let l = ltb-true q k (and-left (ltb q k) (has (getD rows (atom q) 0) x) u) in
         (l, sym (K .edges (atom q) (K .low q l) x) ∙ and-right (ltb q k) (has (getD rows (atom q) 0) x) u)
 
-    x-joined : (q : ℕ) → q < k → together P x (atom q) ≡ true
-    x-joined q l = subst (λ y. together P y (atom q) ≡ true) is (K .joined i q low l)
+    x-joined : (q : ℕ) → q < k → sameComponent P x (atom q) ≡ true
+    x-joined q l = subst (λ y. sameComponent P y (atom q) ≡ true) is (K .joined i q low l)
 
     module _ (S : ℕ) (l : S < 2 ^ k) where
       abbrev R : RowAfter old S i after (getD new S 0)
@@ -112,7 +113,7 @@ module _ (P : Program) (rows atoms : List ℕ) (k : ℕ) (K : Setting P rows ato
         differs : x ≡ atom p → ⊥
         differs f = ne (K .apart p i m low (sym f ∙ sym is))
 
-    table-own : Table P atoms k new (x ∷ s)
+    table-own : SubsetTable P atoms k new (x ∷ s)
     table-own =
         record {
           right = λ S l p m e. by-bool (eqb p i) (λ t. here S l p m e (eqb-true p i t)) (λ t. there S l p m e (eqb-false p i t));
@@ -145,7 +146,7 @@ pub record Reading (rows atoms : List ℕ) (k : ℕ) (q : List ℕ) (i : ℕ) (s
   pub long : length sets ≡ 1024
   pub start : 3 ≤ i
   pub inside : i ≤ length q
-  pub table : (P : Program) → Setting P rows atoms k → Table P atoms k sets (drop i q)
+  pub table : (P : Program) → Setting P rows atoms k → SubsetTable P atoms k sets (drop i q)
 
 module _ (rows atoms : List ℕ) (k : ℕ) (few : k ≤ 10) (q : List ℕ) where
   pub reading-start : 3 ≤ length q → Reading rows atoms k q (length q) (replicate 1024 0)
@@ -154,7 +155,7 @@ module _ (rows atoms : List ℕ) (k : ℕ) (few : k ≤ 10) (q : List ℕ) where
         long = length-replicate {A = ℕ} 1024 0;
         start = l;
         inside = omega arith;
-        table = λ P K. subst (Table P atoms k (replicate 1024 0)) (sym (drop-length q)) (table-start P rows atoms k K (replicate 1024 0)
+        table = λ P K. subst (SubsetTable P atoms k (replicate 1024 0)) (sym (drop-length q)) (table-start P rows atoms k K (replicate 1024 0)
             (λ S m. getD-replicate {A = ℕ} 1024 S 0 0 (let e = pow-mono {i = k} {j = 10} few in omega arith)));
       }
 
@@ -165,7 +166,7 @@ module _ (rows atoms : List ℕ) (k : ℕ) (few : k ≤ 10) (q : List ℕ) where
         long = E .long ∙ R .long;
         start = omega arith;
         inside = omega arith;
-        table = λ P K. subst (Table P atoms k new) (ap (λ y. y ∷ drop i q) (B .is) ∙ (ap (λ j. getD q (i - 1) 0 ∷ drop j q) (let e : i ≡ suc (i - 1) = omega arith in e) ∙ sym (drop-cons q (i - 1) 0 (omega arith))))
+        table = λ P K. subst (SubsetTable P atoms k new) (ap (λ y. y ∷ drop i q) (B .is) ∙ (ap (λ j. getD q (i - 1) 0 ∷ drop j q) (let e : i ≡ suc (i - 1) = omega arith in e) ∙ sym (drop-cons q (i - 1) 0 (omega arith))))
             (E .turns P (drop i q) K (R .table P K));
       }
 
@@ -179,8 +180,8 @@ module _ (rows atoms : List ℕ) (k : ℕ) (few : k ≤ 10) (q : List ℕ) where
       full-low : size - 1 < 2 ^ k
       full-low = let e = N .is in let h = pow-pos k in omega arith
 
-      table : (P : Program) → Setting P rows atoms k → Table P atoms k sets (drop 3 q)
-      table P K = subst (λ j. Table P atoms k sets (drop j q)) (let h = R .start in let e : i ≡ 3 = omega arith in e) (R .table P K)
+      table : (P : Program) → Setting P rows atoms k → SubsetTable P atoms k sets (drop 3 q)
+      table P K = subst (λ j. SubsetTable P atoms k sets (drop j q)) (let h = R .start in let e : i ≡ 3 = omega arith in e) (R .table P K)
 
       found : (P : Program) → Setting P rows atoms k → b ≡ true → (p : ℕ) → p < k → (w : List ℕ) → Chain P (getD atoms p 0 ∷ w) → Sublistᴰ (getD atoms p 0 ∷ w) (drop 3 q)
       found P K t p m w C =

@@ -3,26 +3,22 @@ use bits::byte_at;
 use bits::gather;
 use bits::has;
 use bits::intersection;
-use bits::listed;
+use bits::list_set;
+use bits::size;
 use bits::subset;
 use bits::wide;
 use bits::with;
 use bits::with_if;
 use bits::without;
-use components::component_sizes;
-use components::edges;
 ghost use mathlib.Core.Path.{_≡_};
 ghost use mathlib.Core.Bool.{true};
 ghost use Prim.Native.Nat.{_≤_, _<_};
 ghost use lib.ListN.{length, getD, drop};
 ghost use Rattle.lists.specs.Lists.{below};
-ghost use Rattle.asp.specs.Program.{Program};
-ghost use Rattle.unfolding.specs.Chain.{passes};
-ghost use Rattle.bits.specs.Sets.{has, Gathered};
-ghost use Rattle.bits.specs.Listed.{Low};
-ghost use Rattle.sheet.specs.Sheet.{Walk, recordsFrom, programOf};
-ghost use Rattle.components.specs.Table.{NamesOf, named, componentsFit};
-ghost use Rattle.chains.specs.Table.{RowAfter, NextWith, TableAfter, Followers, PlaceOf, Power, Entered, Tested, Members, Graph, ComponentTested};
+ghost use Rattle.bits.specs.inner.Sets.{has, Gathered};
+ghost use Rattle.bits.specs.inner.Listed.{Low};
+ghost use Rattle.bits.specs.inner.Visited.{listed};
+ghost use Rattle.chains.specs.inner.Subsets.{RowAfter, NextWith, TableAfter, Followers, PlaceOf, Power, Entered, Tested, SetTested, Small, PassesBy};
 
 // The row of a set with i after an entry at place i, which has edges to the places `after`.
 fn row_after(sets: &[u64; 1024], set: usize, i: usize, after: u64) -> u64
@@ -130,68 +126,37 @@ fn chains_found(rows: &[u64; 64], atoms: &[u8; 16], k: usize, q: &[u8]) -> bool
     subset(full as u64, sets[full])
 }
 
-// The atoms of the component named c.
-fn members(names: &[u8; 64], n: usize, c: usize) -> u64
-    requires { ⌜ n ≤ 64 ⌝ }
-    ensures { λ r. ⌜ Members (now (names .entry)) n c r ⌝ }
+// Is every chain of the component with these atoms found in the sequence? By the table.
+fn table_found(rows: &[u64; 64], x: u64, q: &[u8]) -> bool
+    requires { ⌜ (length (listed x) ≤ 10) × (3 ≤ length (now q)) × (below 64 (drop 3 (now q)) ≡ true) ⌝ }
+    ensures { λ r. ⌜ SetTested (now (rows .entry)) x (drop 3 (now (q .entry))) r ⌝ }
 {
-    let mut x: u64 = 0;
-    let mut a = 0;
-    while a < n {
-        let b = wide(names[a]) == c;
-        x = with_if(x, a, b);
-        a += 1;
-    }
-    x
-}
-
-// Is every chain of the component named c found in the sequence? By the table.
-fn table_found(rows: &[u64; 64], names: &[u8; 64], n: usize, c: usize, q: &[u8]) -> bool
-    requires { ⌜ (n ≤ 64) × (length (named (now names) c n) ≤ 10) × (3 ≤ length (now q)) × (below 64 (drop 3 (now q)) ≡ true) ⌝ }
-    ensures { λ r. ⌜ ((P : Program) → Graph P n (now (rows .entry)) (now (names .entry)) → ComponentTested P c (drop 3 (now (q .entry))) r) ⌝ }
-{
-    let x = members(names, n, c);
-    let list = listed(x);
+    let list = list_set(x);
     let atoms = list.atoms;
     let k = list.t;
     chains_found(rows, &atoms, k, q)
 }
 
-// The same, with the component's size and the set of the sequence's atoms: an atom alone has one chain, itself.
-fn component_found(
-    rows: &[u64; 64],
-    names: &[u8; 64],
-    n: usize,
-    c: usize,
-    size: usize,
-    q: &[u8],
-    entries: u64,
-) -> bool
-    requires { ⌜ (n ≤ 64) × (c < n) × (size ≡ length (named (now names) c n)) × (length (named (now names) c n) ≤ 10) × (3 ≤ length (now q)) × (below 64 (drop 3 (now q)) ≡ true) × Gathered (drop 3 (now q)) entries ⌝ }
-    ensures { λ r. ⌜ ((P : Program) → Graph P n (now (rows .entry)) (now (names .entry)) → ComponentTested P c (drop 3 (now (q .entry))) r) ⌝ }
+// The same, with the set of the sequence's atoms: an atom alone has one chain, itself.
+fn component_found(rows: &[u64; 64], x: u64, q: &[u8], entries: u64) -> bool
+    requires { ⌜ (length (listed x) ≤ 10) × (3 ≤ length (now q)) × (below 64 (drop 3 (now q)) ≡ true) × Gathered (drop 3 (now q)) entries ⌝ }
+    ensures { λ r. ⌜ SetTested (now (rows .entry)) x (drop 3 (now (q .entry))) r ⌝ }
 {
-    if size == 0 {
-        return true;
+    if size(x) <= 1 {
+        return subset(x, entries);
     }
-    if size == 1 {
-        return has(entries, c);
-    }
-    table_found(rows, names, n, c, q)
+    table_found(rows, x, q)
 }
 
-// The chain question, of m records over n atoms with their components' names.
-pub fn passes(s: &[u8], n: usize, m: usize, names: &[u8; 64], q: &[u8]) -> bool
-    requires { ⌜ Walk (now s) n m 5 × (n ≤ 64) × NamesOf (programOf n (recordsFrom m (now s) 5)) (now names) × (componentsFit 10 (programOf n (recordsFrom m (now s) 5)) ≡ true) × (3 ≤ length (now q)) × (below n (drop 3 (now q)) ≡ true) ⌝ }
-    ensures { λ r. ⌜ r ≡ passes (programOf n (recordsFrom m (now (s .entry)) 5)) (drop 3 (now (q .entry))) ⌝ }
+// The chain question, of a program of n atoms with its edges and the sets of its components.
+pub fn passes(n: usize, rows: &[u64; 64], sets: &[u64; 64], q: &[u8]) -> bool
+    requires { ⌜ (n ≤ 64) × Small n (now sets) × (3 ≤ length (now q)) × (below n (drop 3 (now q)) ≡ true) ⌝ }
+    ensures { λ r. ⌜ PassesBy n (now (rows .entry)) (now (sets .entry)) (drop 3 (now (q .entry))) r ⌝ }
 {
-    let table = edges(s, n, m);
-    let rows = table.rows;
-    let sizes = component_sizes(names, n);
-    let of = sizes.of;
     let entries = gather(&q[3..]);
     let mut c = 0;
     while c < n {
-        if !component_found(&rows, names, n, c, of[c], q, entries) {
+        if !component_found(rows, sets[c], q, entries) {
             return false;
         }
         c += 1;

@@ -139,9 +139,9 @@ fn print_header(variables: usize, clauses: usize) {
     write_all(1, b"\n");
 }
 
-fn print_refused(q: u32) {
+fn print_refused(refusal: u32) {
     write_all(1, b"refused ");
-    print_decimal(1, q as u64);
+    print_decimal(1, refusal as u64);
     write_all(1, b"\n");
 }
 
@@ -151,8 +151,8 @@ fn answer(input: &[u8], e: usize, words: &mut [i32])
 {
     let answer = office::clauses(&input[0..e], &input[e..], words);
     match answer {
-        ClausesAnswer::Refused(q) => {
-            print_refused(q);
+        ClausesAnswer::Refused(refusal) => {
+            print_refused(refusal);
         }
         ClausesAnswer::Written(k, variables, clauses) => {
             print_header(variables, clauses);

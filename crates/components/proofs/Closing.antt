@@ -11,9 +11,9 @@ use lib.Dec.{eqb}
 use lib.ListN.{length, getD, set, length-set}
 use lib.Seq.{getD-set-same, getD-set-other}
 use Rattle.lists.proofs.Bools.{by-bool}
-use Rattle.bits.specs.Sets.{has}
+use Rattle.bits.specs.inner.Sets.{has}
 use Rattle.bits.proofs.Digits.{or-has}
-use Rattle.components.specs.Table.{Relation, closed, Holds, RowThrough, ClosedBy, Closed}
+use Rattle.components.specs.inner.Reachability.{Relation, closure, Holds, RowThrough, ClosedBy, ClosedTable}
 
 module _ (x k row : ℕ) where
   pub row-union : (b : Bool) → b ≡ has x k → b ≡ true → RowThrough x k row (bitOr x row)
@@ -64,17 +64,18 @@ module _ (k : ℕ) (rows₀ : List ℕ) where
       }
 
 -- The rounds so far.
-pub record Rounds (n : ℕ) (rows₀ : List ℕ) (k : ℕ) (rows : List ℕ) : Type 0 where
-  pub closes : (R : Relation) → Holds n R rows₀ → Holds n (closed R k) rows
+pub record ClosureRounds (n : ℕ) (rows₀ : List ℕ) (k : ℕ) (rows : List ℕ) : Type 0 where
+  pub long : length rows ≡ 64
+  pub closes : (R : Relation) → Holds n R rows₀ → Holds n (closure R k) rows
 
 module _ (n : ℕ) (rows₀ : List ℕ) where
-  pub rounds-start : Rounds n rows₀ 0 rows₀
-  unfolding closed
-  rounds-start = record { closes = λ R H. H }
+  pub rounds-start : length rows₀ ≡ 64 → ClosureRounds n rows₀ 0 rows₀
+  unfolding closure
+  rounds-start l = record { long = l; closes = λ R H. H }
 
-  pub rounds-turn : (k : ℕ) (rows new : List ℕ) → Rounds n rows₀ k rows → ClosedBy k n rows new → Rounds n rows₀ (k + 1) new
-  unfolding closed
-  rounds-turn k rows new H C = rw (add-one k) record { closes = λ R h. C .closes (closed R k) (H .closes R h) }
+  pub rounds-turn : (k : ℕ) (rows new : List ℕ) → ClosureRounds n rows₀ k rows → ClosedBy k n rows new → ClosureRounds n rows₀ (k + 1) new
+  unfolding closure
+  rounds-turn k rows new H C = rw (add-one k) record { long = C .long ∙ H .long; closes = λ R h. C .closes (closure R k) (H .closes R h) }
 
-  pub rounds-end : (k : ℕ) (rows : List ℕ) → Rounds n rows₀ k rows → k ≤ n → n ≤ k → Closed n rows₀ rows
-  rounds-end k rows H l m = record { closes = λ R h. subst (λ j. Holds n (closed R j) rows) (omega arith) (H .closes R h) }
+  pub rounds-end : (k : ℕ) (rows : List ℕ) → ClosureRounds n rows₀ k rows → k ≤ n → n ≤ k → ClosedTable n rows₀ rows
+  rounds-end k rows H l m = record { closes = λ R h. subst (λ j. Holds n (closure R j) rows) (omega arith) (H .closes R h) }

@@ -2,4 +2,4 @@ pub mod Warshall
 pub mod Closing
 pub mod Linking
 pub mod Naming
-pub mod Components
+pub mod Graphs

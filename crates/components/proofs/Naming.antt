@@ -1,149 +1,177 @@
--- Laws of the loops over the closed table and over the components' names.
-use mathlib.Core.Bool.{Bool, true, false, _&&_, cond}
-use mathlib.Core.List.{List, _∷_}
+-- Laws of the loops over the closed table and over the components' names and sets.
+use mathlib.Core.Bool.{Bool, true, false, _&&_, _||_, cond, and-true, and-false}
+use mathlib.Core.List.{List, [], _∷_}
 use mathlib.Core.Path.{_≡_, refl, sym, _∙_, ap}
-use Prim.Native.Nat.{ℕ, _+_, _-_, _%_, _≤_, _<_}
+use Prim.Native.Nat.{ℕ, _+_, _-_, _*_, _^_, _%_, _≤_, _<_}
 use native.Mathlib.Nat.{sub-zero, mod-eq-of-lt}
 use native.Mathlib.Omega.{arith}
-use borrow.Author.Tests.{eqb-true, eqb-false, eq-eqb, ne-eqb, le-leb, lt-leb}
-use lib.Dec.{eqb, leb}
+use borrow.Author.Tests.{eqb-true, eqb-false, eq-eqb, ne-eqb, lt-ltb, le-ltb, ltb-true, ltb-false, le-leb, lt-leb}
+use lib.Bits.{bitAnd}
+use lib.Dec.{eqb, ltb, leb}
 use lib.ListN.{length, getD, set, length-set, replicate, length-replicate, getD-replicate}
 use lib.Seq.{getD-set-same, getD-set-other}
 use Rattle.lists.specs.Lists.{all, filter, range}
-use Rattle.lists.proofs.Bools.{by-bool}
-use Rattle.lists.proofs.Members.{range-left, range-over}
+use Rattle.lists.proofs.Bools.{by-bool, bool-ext, true-false, and-left, and-right}
+use Rattle.lists.proofs.Members.{filter-cong, filter-none, filter-out, filter-range, range-left, range-over, range-out}
 use Rattle.unfolding.specs.Graph.{first}
-use Rattle.bits.specs.Sets.{has}
-use Rattle.components.specs.Table.{bothWays, Smallest, NamedBy, named, Leading, SizesOf, namesFit}
+use Rattle.bits.specs.inner.Sets.{has, With, Size}
+use Rattle.bits.specs.inner.Visited.{listed, Lowest, Rest}
+use Rattle.bits.proofs.Digits.{zero-has}
+use Rattle.bits.proofs.Visiting.{listed-lowest, listed-none, has-some, rest-is}
+use Rattle.components.specs.inner.Reachability.{bothWays, NameOf, NamedBy, SetsOf, named, namesFit, SetsFit}
 
-pub mutual-yes : (rows : List ℕ) (a b : ℕ) (x y : Bool) → x ≡ has (getD rows a 0) b → x ≡ true → y ≡ has (getD rows b 0) a → y ≡ bothWays rows a b
-mutual-yes rows a b x y e t f = f ∙ sym (rw (sym e ∙ t) refl)
+-- The first number that passes both tests, by the list of those that pass the one.
+first-filter : (p q : ℕ → Bool) (d : ℕ) (l : List ℕ) → first (λ b. p b && q b) d l ≡ first q d (filter p l)
+unfolding first filter
+first-filter p q d [] = refl
+first-filter p q d (x ∷ l) = by-bool (p x) (λ t. rw (t, first-filter p q d l) refl) (λ f. rw f (first-filter p q d l))
 
-pub mutual-no : (rows : List ℕ) (a b : ℕ) (x : Bool) → x ≡ has (getD rows a 0) b → x ≡ false → false ≡ bothWays rows a b
-mutual-no rows a b x e f = sym (rw (sym e ∙ f) refl)
+filter-twice : (p q : ℕ → Bool) (l : List ℕ) → filter q (filter p l) ≡ filter (λ b. p b && q b) l
+unfolding filter
+filter-twice p q [] = refl
+filter-twice p q (x ∷ l) = by-bool (p x) (λ t. by-bool (q x) (λ u. rw (t, u) (ap (λ m. x ∷ m) (filter-twice p q l))) (λ u. rw (t, u) (filter-twice p q l))) (λ f. rw f (filter-twice p q l))
 
--- The smallest atom: what is left of the range decides.
-pub record Seeking (rows : List ℕ) (a b : ℕ) : Type 0 where
-  pub same : first (bothWays rows a) a (range b (a - b)) ≡ first (bothWays rows a) a (range 0 a)
-  pub low : b ≤ a
+-- The smallest atom: what is left of the atoms that lead to a, those below a, decides.
+pub record Seeking (rows : List ℕ) (a left : ℕ) : Type 0 where
+  pub same : first (λ b. has (getD rows b 0) a) a (filter (λ b. ltb b a) (listed left)) ≡ first (bothWays rows a) a (range 0 a)
 
 module _ (rows : List ℕ) (a : ℕ) where
-  pub seeking-start : Seeking rows a 0
-  seeking-start = record { same = ap (λ k. first (bothWays rows a) a (range 0 k)) (sub-zero a); low = omega arith }
+  pub seeking-start : a < 64 → Seeking rows a (getD rows a 0)
+  unfolding listed
+  seeking-start l =
+      let p : ℕ → Bool = has (getD rows a 0) in
+      record {
+        same = ap (first (λ b. has (getD rows b 0) a) a)
+            (filter-twice p (λ b. ltb b a) (range 0 64)
+            ∙ (filter-range (λ b. p b && ltb b a) a 64 (omega arith) (λ b t. ltb-true b a (and-right (p b) (ltb b a) t))
+            ∙ filter-cong (λ b. p b && ltb b a) p (range 0 a) (λ b m. let r = range-out 0 a b m .high in rw (lt-ltb b a (omega arith)) (and-true (p b)))))
+            ∙ sym (first-filter p (λ b. has (getD rows b 0) a) a (range 0 a));
+      }
 
-  step : (b : ℕ) → Seeking rows a b → b < a → cond (bothWays rows a b) b (first (bothWays rows a) a (range (b + 1) (a - (b + 1)))) ≡ first (bothWays rows a) a (range 0 a)
-  unfolding first
-  step b S l = sym (ap (first (bothWays rows a) a) (range-left b a l)) ∙ S .same
+  module _ (left b : ℕ) (S : Seeking rows a left) (L : Lowest left b) where
+    pub seeking-past : a ≤ b → NameOf rows a a
+    unfolding listed first
+    seeking-past h =
+        record {
+          is = sym (ap (first (λ b. has (getD rows b 0) a) a)
+              (filter-none (λ b. ltb b a) (listed left) (λ x m. let f = filter-out (has left) (range 0 64) x m .1 in
+              le-ltb x a (by-bool (ltb x b) (λ t. absurd (true-false f (L .first x (ltb-true x b t)))) (λ n. let k = ltb-false x b n in omega arith)))))
+              ∙ S .same;
+          low = omega arith;
+        }
 
-  pub seeking-found : (b : ℕ) (x : Bool) → Seeking rows a b → b < a → x ≡ bothWays rows a b → x ≡ true → Smallest rows a b
-  seeking-found b x S l e t = record { is = rw (sym e ∙ t) at (step b S l); low = omega arith }
+    step : (r : ℕ) → b < a → Rest left r → cond (has (getD rows b 0) a) b (first (λ b. has (getD rows b 0) a) a (filter (λ b. ltb b a) (listed r))) ≡ first (bothWays rows a) a (range 0 a)
+    unfolding first filter
+    step r l R = sym (ap (λ l. first (λ b. has (getD rows b 0) a) a (filter (λ b. ltb b a) l)) (listed-lowest left b L r R) ∙ rw (lt-ltb b a l) refl) ∙ S .same
 
-  pub seeking-turn : (b : ℕ) (x : Bool) → Seeking rows a b → b < a → x ≡ bothWays rows a b → x ≡ false → Seeking rows a (b + 1)
-  seeking-turn b x S l e f = record { same = rw (sym e ∙ f) at (step b S l); low = omega arith }
+    pub seeking-turn : (r : ℕ) (x : Bool) → b < a → x ≡ has (getD rows b 0) a → x ≡ false → Rest left r → Seeking rows a r
+    seeking-turn r x l e f R = record { same = rw (sym e ∙ f) at (step r l R) }
 
-  pub seeking-end : (b : ℕ) → Seeking rows a b → a ≤ b → Smallest rows a a
-  unfolding first
-  seeking-end b S l = record { is = sym (ap (first (bothWays rows a) a) (range-over b a l)) ∙ S .same; low = omega arith }
+    pub seeking-found : (x : Bool) → b < a → x ≡ has (getD rows b 0) a → x ≡ true → NameOf rows a b
+    unfolding first filter
+    seeking-found x l e t =
+        record { is = rw (sym e ∙ t) at (step (bitAnd left (left - 1)) l (rest-is left (has-some left b (L .is)))); low = omega arith }
+
+  pub seeking-end : (left : ℕ) → Seeking rows a left → left ≤ 0 → NameOf rows a a
+  unfolding first filter
+  seeking-end left S l = record { is = sym (ap (λ l. first (λ b. has (getD rows b 0) a) a (filter (λ b. ltb b a) l)) (ap listed (let z : left ≡ 0 = omega arith in z) ∙ listed-none)) ∙ S .same; low = omega arith }
 
 -- The names so far.
 pub record Naming (n : ℕ) (rows : List ℕ) (a : ℕ) (names : List ℕ) : Type 0 where
   pub long : length names ≡ 64
-  pub done : (i : ℕ) → i < a → getD names i 0 ≡ first (bothWays rows i) i (range 0 i)
+  pub done : (i : ℕ) → i < a → NameOf rows i (getD names i 0)
 
 module _ (n : ℕ) (rows : List ℕ) where
   pub naming-start : Naming n rows 0 (replicate 64 0)
   naming-start = record { long = length-replicate {A = ℕ} 64 0; done = λ i l. absurd (omega arith) }
 
-  pub naming-turn : (a r : ℕ) (names : List ℕ) → Naming n rows a names → a < 64 → Smallest rows a r → Naming n rows (a + 1) (set names a (r % 256))
+  pub naming-turn : (a r : ℕ) (names : List ℕ) → Naming n rows a names → a < 64 → NameOf rows a r → Naming n rows (a + 1) (set names a (r % 256))
   naming-turn a r names K l S =
       record {
         long = length-set names a (r % 256) ∙ K .long;
         done = λ i h. by-bool (eqb i a)
-            (λ q. let e = eqb-true i a q in let w = K .long in let k = S .low in
-            ap (λ j. getD (set names a (r % 256)) j 0) e
-            ∙ (getD-set-same names a (r % 256) 0 (omega arith) ∙ (mod-eq-of-lt (omega arith) ∙ (S .is ∙ ap (λ j. first (bothWays rows j) j (range 0 j)) (sym e)))))
-            (λ q. let ne = eqb-false i a q in getD-set-other names a i (r % 256) 0 ne ∙ K .done i (omega arith));
+            (λ q. let w = K .long in let k = S .low in
+            rw (eqb-true i a q, getD-set-same names a (r % 256) 0 (omega arith), let m : r % 256 ≡ r = mod-eq-of-lt (omega arith) in m) S)
+            (λ q. let ne = eqb-false i a q in rw (getD-set-other names a i (r % 256) 0 ne) (K .done i (omega arith)));
       }
 
   pub naming-end : (a : ℕ) (names : List ℕ) → Naming n rows a names → n ≤ a → NamedBy n rows names
   naming-end a names K l = record { long = K .long; name = λ i h. K .done i (omega arith) }
 
--- One name: what is counted, with those of the name from a on, is its size.
-pub record Counting (names : List ℕ) (c n a size : ℕ) : Type 0 where
-  pub same : size + length (filter (λ i. eqb (getD names i 0) c) (range a (n - a))) ≡ length (named names c n)
-  pub short : size ≤ a
+  pub name-low : (a d : ℕ) (names : List ℕ) → NamedBy n rows names → a < n → n ≤ 64 → d ≡ getD names a 0 → d < 64
+  name-low a d names N l m e = let h = N .name a l .low in omega arith
 
-module _ (names : List ℕ) (c n : ℕ) where
-  counting-start : Counting names c n 0 0
-  unfolding named
-  counting-start =
-      record { same = let e = ap (λ k. length (filter (λ i. eqb (getD names i 0) c) (range 0 k))) (sub-zero n) in omega arith; short = omega arith }
+  pub name-scale : (a d : ℕ) (names : List ℕ) → NamedBy n rows names → a < n → n ≤ 64 → d ≡ getD names a 0 → d * 8 < 2 ^ 64
+  name-scale a d names N l m e = let h = name-low a d names N l m e in omega arith
 
-  module _ (a size : ℕ) (C : Counting names c n a size) (l : a < n) where
-    step-length : length (filter (λ i. eqb (getD names i 0) c) (range a (n - a)))
-        ≡ length (cond (eqb (getD names a 0) c) (a ∷ filter (λ i. eqb (getD names i 0) c) (range (a + 1) (n - (a + 1)))) (filter (λ i. eqb (getD names i 0) c) (range (a + 1) (n - (a + 1)))))
-    unfolding filter
-    step-length = ap (λ l. length (filter (λ i. eqb (getD names i 0) c) l)) (range-left a n l)
+-- The sets so far.
+pub record Grouping (names : List ℕ) (a : ℕ) (sets : List ℕ) : Type 0 where
+  pub long : length sets ≡ 64
+  pub members : (c : ℕ) → c < 64 → (b : ℕ) → has (getD sets c 0) b ≡ (ltb b a && eqb (getD names b 0) c)
 
-    counting-one : getD names a 0 ≡ c → Counting names c n (a + 1) (size + 1)
-    counting-one e = let k = rw (eq-eqb (getD names a 0) c e) at step-length in let q = C .same in let h = C .short in record { same = omega arith; short = omega arith }
+module _ (names : List ℕ) where
+  pub grouping-start : Grouping names 0 (replicate 64 0)
+  grouping-start = record { long = length-replicate {A = ℕ} 64 0; members = λ c l b. rw (getD-replicate {A = ℕ} 64 c 0 0 l, zero-has b, le-ltb b 0 (omega arith)) refl }
 
-    counting-none : (getD names a 0 ≡ c → ⊥) → Counting names c n (a + 1) size
-    counting-none ne = let k = rw (ne-eqb (getD names a 0) c ne) at step-length in let q = C .same in let h = C .short in record { same = omega arith; short = omega arith }
-
-  counting-end : (a size : ℕ) → Counting names c n a size → n ≤ a → size ≡ length (named names c n)
-  unfolding filter
-  counting-end a size C l = let e = ap (λ l. length (filter (λ i. eqb (getD names i 0) c) l)) (range-over a n l) in let q = C .same in omega arith
-
--- Every name.
-pub record Tallying (names : List ℕ) (n a : ℕ) (sizes : List ℕ) : Type 0 where
-  pub long : length sizes ≡ 64
-  pub inside : a ≤ n
-  pub counts : (c : ℕ) → c < 64 → Counting names c n a (getD sizes c 0)
-
-module _ (names : List ℕ) (n : ℕ) where
-  pub tallying-start : Tallying names n 0 (replicate 64 0)
-  tallying-start = record { long = length-replicate {A = ℕ} 64 0; inside = omega arith; counts = λ c l. rw (getD-replicate {A = ℕ} 64 c 0 0 l) (counting-start names c n) }
-
-  pub tallying-turn : (a d : ℕ) (sizes : List ℕ) → Tallying names n a sizes → a < n → d ≡ getD names a 0 → d < 64 → Tallying names n (a + 1) (set sizes d (getD sizes d 0 + 1))
-  tallying-turn a d sizes K l e low =
+  pub grouping-turn : (a d r : ℕ) (sets : List ℕ) → Grouping names a sets → d ≡ getD names a 0 → d < 64 → With (getD sets d 0) a r → Grouping names (a + 1) (set sets d r)
+  grouping-turn a d r sets K e low W =
       record {
-        long = length-set sizes d (getD sizes d 0 + 1) ∙ K .long;
-        inside = omega arith;
-        counts = λ c h. by-bool (eqb c d)
+        long = length-set sets d r ∙ K .long;
+        members = λ c l b. by-bool (eqb c d)
             (λ t. let q = eqb-true c d t in
-            rw (q, getD-set-same sizes d (getD sizes d 0 + 1) 0 (let w = K .long in omega arith)) (counting-one names d n a (getD sizes d 0) (K .counts d low) l (sym e)))
-            (λ f. let ne = eqb-false c d f in
-            rw (getD-set-other sizes d c (getD sizes d 0 + 1) 0 ne) (counting-none names c n a (getD sizes c 0) (K .counts c h) l (λ g. ne (sym (e ∙ g)))));
+            rw (q, getD-set-same sets d r 0 (let w = K .long in omega arith)) (W .members b ∙ (rw (K .members d low b) (joins b))))
+            (λ f. let ne = eqb-false c d f in rw (getD-set-other sets d c r 0 ne) (K .members c l b ∙ stays c ne b));
       }
+    where
+      joins : (b : ℕ) → (eqb b a || ltb b a && eqb (getD names b 0) d) ≡ (ltb b (a + 1) && eqb (getD names b 0) d)
+      joins b =
+          by-bool (eqb b a)
+          (λ t. let q = eqb-true b a t in rw (t, lt-ltb b (a + 1) (omega arith), eq-eqb (getD names b 0) d (ap (λ i. getD names i 0) q ∙ sym e)) refl)
+          (λ f. rw (f, later b f) refl)
+        where
+          later : (b : ℕ) → eqb b a ≡ false → ltb b a ≡ ltb b (a + 1)
+          later b f = let ne = eqb-false b a f in bool-ext (λ t. let u = ltb-true b a t in lt-ltb b (a + 1) (omega arith)) (λ t. let u = ltb-true b (a + 1) t in lt-ltb b a (omega arith))
 
-  pub tallying-end : (a : ℕ) (sizes : List ℕ) → Tallying names n a sizes → n ≤ a → SizesOf names n sizes
-  tallying-end a sizes K l = record { size = λ c h. counting-end names c n a (getD sizes c 0) (K .counts c h) l; few = λ c h. let k = K .counts c h .short in let m = K .inside in omega arith }
+      stays : (c : ℕ) → (c ≡ d → ⊥) → (b : ℕ) → (ltb b a && eqb (getD names b 0) c) ≡ (ltb b (a + 1) && eqb (getD names b 0) c)
+      stays c ne b =
+          by-bool (eqb b a)
+          (λ t. let q = eqb-true b a t in rw (ne-eqb (getD names b 0) c (λ g. ne (sym (e ∙ (ap (λ i. getD names i 0) (sym q) ∙ g))))) (and-false (ltb b a) ∙ sym (and-false (ltb b (a + 1)))))
+          (λ f. let u = eqb-false b a f in
+          let same : ltb b a ≡ ltb b (a + 1) = bool-ext (λ t. let v = ltb-true b a t in lt-ltb b (a + 1) (omega arith)) (λ t. let v = ltb-true b (a + 1) t in lt-ltb b a (omega arith)) in
+          rw same refl)
 
-  pub name-low : (a d : ℕ) → Leading names n → a < n → n ≤ 64 → d ≡ getD names a 0 → d < 64
-  name-low a d G l m e = let h = G .low a l in omega arith
+  pub grouping-end : (a n : ℕ) (sets : List ℕ) → Grouping names a sets → a ≤ n → n ≤ a → SetsOf names n sets
+  grouping-end a n sets K l m = let e : a ≡ n = omega arith in record { members = λ c h b. rw (← e) (K .members c h b) }
+
+-- The set of a name lists the atoms that have it.
+pub sets-named : (names : List ℕ) (n : ℕ) (sets : List ℕ) → SetsOf names n sets → n ≤ 64 → (c : ℕ) → c < 64 → listed (getD sets c 0) ≡ named names c n
+unfolding named listed
+sets-named names n sets S l c h =
+    filter-range (has (getD sets c 0)) n 64 l (λ a t. ltb-true a n (and-left (ltb a n) (eqb (getD names a 0) c) (sym (S .members c h a) ∙ t)))
+    ∙ filter-cong (has (getD sets c 0)) (λ a. eqb (getD names a 0) c) (range 0 n) (λ a m. let r = range-out 0 n a m .high in S .members c h a ∙ (rw (lt-ltb a n (omega arith)) refl))
 
 -- Question 7.
-pub record Fitting (most : ℕ) (names : List ℕ) (n c : ℕ) : Type 0 where
-  pub same : all (λ i. leb (length (named names i n)) most) (range c (n - c)) ≡ namesFit most names n
+pub record Fitting (most n : ℕ) (sets : List ℕ) (c : ℕ) : Type 0 where
+  pub same : (names : List ℕ) → SetsOf names n sets → all (λ i. leb (length (named names i n)) most) (range c (n - c)) ≡ namesFit most names n
 
-module _ (most : ℕ) (names : List ℕ) (n : ℕ) where
-  pub fitting-start : Fitting most names n 0
+module _ (most n : ℕ) (sets : List ℕ) where
+  pub fitting-start : Fitting most n sets 0
   unfolding namesFit
-  fitting-start = record { same = ap (λ k. all (λ i. leb (length (named names i n)) most) (range 0 k)) (sub-zero n) }
+  fitting-start = record { same = λ names S. ap (λ k. all (λ i. leb (length (named names i n)) most) (range 0 k)) (sub-zero n) }
 
-  fitting-step : (c : ℕ) → Fitting most names n c → c < n
-      → (leb (length (named names c n)) most && all (λ i. leb (length (named names i n)) most) (range (c + 1) (n - (c + 1)))) ≡ namesFit most names n
+  module _ (c : ℕ) (F : Fitting most n sets c) (l : c < n) (low : n ≤ 64) (x : ℕ) (Z : Size (getD sets c 0) x) where
+    next : (names : List ℕ) → SetsOf names n sets → (leb x most && all (λ i. leb (length (named names i n)) most) (range (c + 1) (n - (c + 1)))) ≡ namesFit most names n
+    unfolding all listed
+    next names S =
+        ap (λ k. leb k most && all (λ i. leb (length (named names i n)) most) (range (c + 1) (n - (c + 1)))) (Z .is ∙ ap length (sets-named names n sets S low c (omega arith)))
+        ∙ (sym (ap (all (λ i. leb (length (named names i n)) most)) (range-left c n l)) ∙ F .same names S)
+
+    pub fitting-wide : most < x → SetsFit most n sets false
+    fitting-wide h = record { is = λ names S. rw (lt-leb x most h) at (next names S) }
+
+    pub fitting-turn : x ≤ most → Fitting most n sets (c + 1)
+    fitting-turn h = record { same = λ names S. rw (le-leb x most h) at (next names S) }
+
+  pub fitting-end : (c : ℕ) → Fitting most n sets c → n ≤ c → SetsFit most n sets true
   unfolding all
-  fitting-step c F l = sym (ap (all (λ i. leb (length (named names i n)) most)) (range-left c n l)) ∙ F .same
-
-  module _ (c : ℕ) (sizes : List ℕ) (F : Fitting most names n c) (l : c < n) (low : n ≤ 64) (S : SizesOf names n sizes) where
-    pub fitting-wide : most < getD sizes c 0 → false ≡ namesFit most names n
-    fitting-wide h = rw (lt-leb (length (named names c n)) most (omega (arith, S .size c (omega arith)))) at (fitting-step c F l)
-
-    pub fitting-turn : getD sizes c 0 ≤ most → Fitting most names n (c + 1)
-    fitting-turn h = record { same = rw (le-leb (length (named names c n)) most (omega (arith, S .size c (omega arith)))) at (fitting-step c F l) }
-
-  pub fitting-end : (c : ℕ) → Fitting most names n c → n ≤ c → true ≡ namesFit most names n
-  unfolding all
-  fitting-end c F l = sym (ap (all (λ i. leb (length (named names i n)) most)) (range-over c n l)) ∙ F .same
+  fitting-end c F l = record { is = λ names S. sym (ap (all (λ i. leb (length (named names i n)) most)) (range-over c n l)) ∙ F .same names S }

@@ -1,2 +1,2 @@
-pub mod Table
-pub mod Analysed
+pub mod Limit
+pub mod inner

@@ -1,20 +1,28 @@
-// Components of a sheet's positive dependency graph, from a table of 64 rows closed row by row; question 7.
-use bits::byte_at;
-use bits::gather;
+// Components of a program's positive dependency graph, from a table of 64 rows closed row by row; question 7.
 use bits::has;
+use bits::lowest;
+use bits::rest;
+use bits::size;
+use bits::union;
 use bits::wide;
-use sheet::Limits;
-use sheet::form_refusal;
-use sheet::next_record;
+use bits::with;
+use program::ProgramTable;
 ghost use mathlib.Core.Path.{_≡_};
 ghost use Prim.Native.Nat.{_≤_, _<_};
-ghost use Rattle.components.specs.Table.{closed, Holds, bothWays, Smallest, NamedBy, NamesOf, Leading, SizesOf, namesFit, RowThrough, ClosedBy, Closed, Added, links};
-ghost use Rattle.sheet.specs.Sheet.{Known, Walk, recordAt, recordsFrom, programOf};
-ghost use Rattle.components.specs.Analysed.{Analysed};
+ghost use lib.ListN.{length};
+ghost use Rattle.program.specs.inner.Held.{programIn, Readable};
+ghost use Rattle.components.specs.inner.Reachability.{Linked, RowThrough, ClosedBy, ClosedTable, NameOf, NamedBy, SetsOf, SetsFit, ComponentsOf};
 
 // Row a holds the atoms that have an edge to a, and in the end all that lead to a.
 pub struct Reach {
     pub rows: [u64; 64],
+}
+
+// A row with the positive atoms of a rule.
+fn with_edges(row: u64, pos: u64) -> u64
+    ensures { λ r. ⌜ Linked row pos r ⌝ }
+{
+    union(row, pos)
 }
 
 // One row of a round for k, whose own row is given.
@@ -28,106 +36,55 @@ fn row_through(x: u64, k: usize, row: u64) -> u64
     x
 }
 
-impl Reach {
-    // A round for k of the first n rows.
-    fn close_by(self, k: usize, n: usize) -> Reach
-        requires { ⌜ (k < n) × (n ≤ 64) ⌝ }
-        ensures { λ r. ⌜ ClosedBy k n (self .rows) (r .rows) ⌝ }
-    {
-        let mut rows = self.rows;
-        let row = rows[k];
-        let mut a = 0;
-        while a < n {
-            rows[a] = row_through(rows[a], k, row);
-            a += 1;
-        }
-        Reach { rows }
+// A round for k of the first n rows.
+fn close_by(rows: &mut [u64; 64], k: usize, n: usize)
+    requires { ⌜ (length (now rows) ≡ 64) × (k < n) × (n ≤ 64) ⌝ }
+    ensures { λ r. ⌜ ClosedBy k n (now (rows .entry)) (now (rows .exit)) ⌝ }
+{
+    let row = rows[k];
+    let mut a = 0;
+    while a < n {
+        rows[a] = row_through(rows[a], k, row);
+        a += 1;
     }
+}
 
+impl Reach {
     // The rounds for 0 .. n - 1.
     fn close(self, n: usize) -> Reach
-        requires { ⌜ n ≤ 64 ⌝ }
-        ensures { λ r. ⌜ Closed n (self .rows) (r .rows) ⌝ }
+        requires { ⌜ (length (self .rows) ≡ 64) × (n ≤ 64) ⌝ }
+        ensures { λ r. ⌜ ClosedTable n (self .rows) (r .rows) ⌝ }
     {
-        let mut table = self;
+        let mut rows = self.rows;
         let mut k = 0;
         while k < n {
-            table = table.close_by(k, n);
+            close_by(&mut rows, k, n);
             k += 1;
         }
-        table
-    }
-
-    // The table with the edges of the record at an offset.
-    fn add(self, s: &[u8], at: usize, n: usize) -> Reach
-        requires { ⌜ Known (now s) n at × (n ≤ 64) ⌝ }
-        ensures { λ r. ⌜ Added n (recordAt (now (s .entry)) at) (self .rows) (r .rows) ⌝ }
-    {
-        if byte_at(s, at + 1) != 0 {
-            return self;
-        }
-        let h = byte_at(s, at + 2);
-        let a = at + 4;
-        let e = a + byte_at(s, at + 3);
-        let atoms = gather(&s[a..e]);
-        let mut rows = self.rows;
-        rows[h] = rows[h] | atoms;
         Reach { rows }
     }
 }
 
-// The edges of m records.
-pub fn edges(s: &[u8], n: usize, m: usize) -> Reach
-    requires { ⌜ Walk (now s) n m 5 × (n ≤ 64) ⌝ }
-    ensures { λ r. ⌜ Holds n (links (recordsFrom m (now (s .entry)) 5)) (r .rows) ⌝ }
-{
-    let mut table = Reach { rows: [0; 64] };
-    let mut at = 5;
-    let mut left = m;
-    while 0 < left {
-        let next = next_record(s, at, left, n);
-        table = table.add(s, at, n);
-        at = next;
-        left -= 1;
-    }
-    table
-}
-
-// The closed table, for an order of work: no promise hangs on it.
-pub fn ancestors(s: &[u8], n: usize, m: usize) -> Reach
-    requires { ⌜ Walk (now s) n m 5 × (n ≤ 64) ⌝ }
-{
-    let table = edges(s, n, m);
-    table.close(n)
-}
-
-// Does a lead to b and b to a?
-fn mutual(rows: &[u64; 64], a: usize, b: usize) -> bool
-    requires { ⌜ (a < 64) × (b < 64) ⌝ }
-    ensures { λ r. ⌜ r ≡ bothWays (now (rows .entry)) a b ⌝ }
-{
-    if has(rows[a], b) {
-        return has(rows[b], a);
-    }
-    false
-}
-
-// The smallest atom of a's component, of a closed table.
-fn smallest(rows: &[u64; 64], a: usize) -> usize
+// The smallest atom of a's component, of a closed table: the first of those that lead to a to which a leads.
+fn name_of(rows: &[u64; 64], a: usize) -> usize
     requires { ⌜ a < 64 ⌝ }
-    ensures { λ r. ⌜ Smallest (now (rows .entry)) a r ⌝ }
+    ensures { λ r. ⌜ NameOf (now (rows .entry)) a r ⌝ }
 {
-    let mut b = 0;
-    while b < a {
-        if mutual(rows, a, b) {
+    let mut left = rows[a];
+    while 0 < left {
+        let b = lowest(left);
+        if a <= b {
+            return a;
+        }
+        if has(rows[b], a) {
             return b;
         }
-        b += 1;
+        left = rest(left);
     }
     a
 }
 
-// The components of the atoms: each is named by its smallest atom.
+// For each atom the name of its component, which is its smallest atom.
 pub struct Names {
     pub names: [u8; 64],
 }
@@ -142,43 +99,43 @@ impl Reach {
         let mut names = [0u8; 64];
         let mut a = 0;
         while a < n {
-            names[a] = (smallest(&rows, a) % 256) as u8;
+            names[a] = (name_of(&rows, a) % 256) as u8;
             a += 1;
         }
         Names { names }
     }
 }
 
-// The number of atoms of each name.
-pub struct Sizes {
-    pub of: [usize; 64],
+// For each name the atoms that have it.
+pub struct Sets {
+    pub of: [u64; 64],
 }
 
-// How many of the first n atoms have each name.
-pub fn component_sizes(names: &[u8; 64], n: usize) -> Sizes
-    requires { ⌜ (n ≤ 64) × Leading (now names) n ⌝ }
-    ensures { λ r. ⌜ SizesOf (now (names .entry)) n (r .of) ⌝ }
-{
-    let mut of = [0usize; 64];
-    let mut a = 0;
-    while a < n {
-        let c = wide(names[a]);
-        of[c] = of[c] + 1;
-        a += 1;
+impl Names {
+    // The sets of the first n atoms' names, of a closed table.
+    fn sets(self, rows: &[u64; 64], n: usize) -> Sets
+        requires { ⌜ (n ≤ 64) × NamedBy n (now rows) (self .names) ⌝ }
+        ensures { λ r. ⌜ SetsOf (self .names) n (r .of) ⌝ }
+    {
+        let mut of = [0u64; 64];
+        let mut a = 0;
+        while a < n {
+            let c = wide(self.names[a]);
+            of[c] = with(of[c], a);
+            a += 1;
+        }
+        Sets { of }
     }
-    Sizes { of }
 }
 
-// Question 7, of the first n atoms' names.
-fn fit(names: &[u8; 64], n: usize, most: usize) -> bool
-    requires { ⌜ (n ≤ 64) × Leading (now names) n ⌝ }
-    ensures { λ r. ⌜ r ≡ namesFit most (now (names .entry)) n ⌝ }
+// Question 7: has every one of the first n sets at most so many atoms?
+pub fn fits(sets: &[u64; 64], n: usize, most: usize) -> bool
+    requires { ⌜ n ≤ 64 ⌝ }
+    ensures { λ r. ⌜ SetsFit most n (now (sets .entry)) r ⌝ }
 {
-    let sizes = component_sizes(names, n);
-    let of = sizes.of;
     let mut c = 0;
     while c < n {
-        if most < of[c] {
+        if most < size(sets[c]) as usize {
             return false;
         }
         c += 1;
@@ -186,53 +143,38 @@ fn fit(names: &[u8; 64], n: usize, most: usize) -> bool
     true
 }
 
-// The names of the components of m records over n atoms.
-fn component_names(s: &[u8], n: usize, m: usize) -> Names
-    requires { ⌜ Walk (now s) n m 5 × (n ≤ 64) ⌝ }
-    ensures { λ r. ⌜ NamesOf (programOf n (recordsFrom m (now (s .entry)) 5)) (r .names) ⌝ }
-{
-    edges(s, n, m).close(n).names(n)
-}
-
-// What questions 1 to 7 say of a sheet: the refusal, or 0 with the numbers of atoms and records and the components' names.
-pub struct Analysis {
-    pub refusal: u32,
-    pub atoms: usize,
-    pub records: usize,
+// The edges into each atom, the atoms that lead to it, its component's name, and the set of each name.
+pub struct Components {
+    pub edges: [u64; 64],
+    pub ancestors: [u64; 64],
     pub names: [u8; 64],
+    pub sets: [u64; 64],
 }
 
-pub fn refused(q: u32) -> Analysis
-    ensures { λ r. ⌜ r .refusal ≡ q ⌝ }
+// The components of a program.
+pub fn components_of(t: ProgramTable) -> Components
+    requires { ⌜ Readable t ⌝ }
+    ensures { λ r. ⌜ ComponentsOf (programIn t) r ⌝ }
 {
-    Analysis {
-        refusal: q,
-        atoms: 0,
-        records: 0,
-        names: [0; 64],
+    let n = t.atoms;
+    let m = t.rules;
+    let mut edges = [0u64; 64];
+    let mut j = 0;
+    while j < m {
+        let h = wide(t.heads[j]);
+        edges[h] = with_edges(edges[h], t.pos[j]);
+        j += 1;
     }
-}
-
-pub fn analyse(limits: Limits, s: &[u8]) -> Analysis
-    requires { ⌜ limits .atoms ≤ 64 ⌝ }
-    ensures { λ r. ⌜ Analysed limits (now (s .entry)) r ⌝ }
-{
-    let q = form_refusal(limits, s);
-    if q != 0 {
-        return refused(q);
-    }
-    let n = byte_at(s, 3);
-    let m = byte_at(s, 4);
-    let named = component_names(s, n, m);
+    let closed = Reach { rows: edges }.close(n);
+    let named = closed.names(n);
+    let ancestors = closed.rows;
+    let grouped = named.sets(&ancestors, n);
     let names = named.names;
-    let most = limits.component;
-    if fit(&names, n, most) {
-        return Analysis {
-            refusal: 0,
-            atoms: n,
-            records: m,
-            names,
-        };
+    let sets = grouped.of;
+    Components {
+        edges,
+        ancestors,
+        names,
+        sets,
     }
-    refused(7)
 }

@@ -1,102 +1,197 @@
 -- The loop over the entries of a sequence: which copies are left, and what is known of each as it is made.
-use mathlib.Core.Bool.{Bool, true, false, cond}
+use mathlib.Core.Bool.{Bool, true, false, _||_, cond}
 use mathlib.Core.List.{List, [], _∷_}
-use mathlib.Core.Path.{_≡_, refl, sym, _∙_, ap}
+use mathlib.Core.Path.{_≡_, refl, sym, _∙_, ap, ap₂, subst}
 use Prim.Native.Nat.{ℕ, suc, _+_, _≤_, _<_}
 use native.Mathlib.Numerals.{add-one}
 use native.Mathlib.Omega.{arith}
-use lib.ListN.{length, getD, drop, drop-of-length-le}
+use borrow.Author.Tests.{eqb-true, eqb-false, eq-eqb, ne-eqb}
+use lib.Dec.{eqb}
+use lib.ListN.{length, getD, drop, drop-of-length-le, set, length-set, replicate, length-replicate, getD-replicate}
 use lib.Seq.{drop-cons}
-use Rattle.lists.specs.Lists.{member}
-use Rattle.asp.specs.Program.{Program, wellFormed}
-use Rattle.unfolding.specs.Unfolded.{Copy, keptFor, variable, copiesFrom, unfolded}
-use Rattle.sheet.specs.Sheet.{recordsFrom, programOf}
-use Rattle.sheet.proofs.Walk.{walk-sound, walk-formed}
-use Rattle.copies.specs.Bodies.{bodiesBy}
-use Rattle.copies.specs.Made.{Table, Made}
-use Rattle.copies.specs.Ready.{Ready, unfoldedOf}
-use Rattle.copies.specs.declared.Copies.{Copies}
-use Rattle.copies.proofs.Tables.{entry-low}
-use Rattle.copies.proofs.Tracking.{Tracks, tracks-start, tracks-turn, made-var, vars-low, var-low, kept-same}
+use Rattle.lists.proofs.Members.{below-more}
+use Rattle.lists.specs.Lists.{any, below}
+use Rattle.lists.proofs.Bools.{by-bool, bool-ext}
+use Rattle.unfolding.specs.Graph.{sameComponent}
+use Rattle.unfolding.specs.Unfolded.{Copy, last, copied, latest, replaced, keptFor, variable, copiesFrom, unfolded}
+use Rattle.bits.specs.inner.Sets.{has, With}
+use Rattle.bits.proofs.Digits.{zero-has}
+use Rattle.sheet.specs.Sequence.{entries}
+use Rattle.program.specs.inner.Held.{programIn}
+use Rattle.program.specs.declared.ProgramTable.{ProgramTable}
+use Rattle.copies.specs.inner.Tables.{Values, Overlaid}
+use Rattle.copies.specs.inner.Bodies.{bodiesBy}
+use Rattle.copies.specs.inner.Made.{EntryAt, again, componentSet, Made}
+use Rattle.copies.specs.inner.Kept.{Kept}
+use Rattle.copies.specs.inner.Ready.{Ready, unfoldedIn}
+use Rattle.copies.specs.declared.EntryCopy.{EntryCopy}
+use Rattle.copies.specs.declared.KeptRules.{KeptRules}
+use Rattle.copies.proofs.Tables.{stored}
+use Rattle.copies.proofs.Placing.{entry-below}
+use Rattle.copies.proofs.Selecting.{name-low, component-has, kept-bodies}
 
--- The copies cs are those of the entries from i on.
-pub record Going (P : Program) (q : List ℕ) (i : ℕ) (c : Copies) (cs : List Copy) : Type 0 where
+-- The copy of entry i behind those made so far, e of which are not their atom's last.
+abbrev pub copyOf : ProgramTable → List ℕ → ℕ → ℕ → List Copy → Copy
+copyOf t q i e past = record { atom = getD q i 0; var = variable (programIn t) e (getD q i 0) (again q i); kept = keptFor (programIn t) past (getD q i 0) }
+
+-- How many copies are not their atom's last, with that of entry i.
+abbrev pub extraOf : List ℕ → ℕ → ℕ → ℕ
+extraOf q i e = cond (again q i) (suc e) e
+
+-- The loop over the entries from i on: the set of the atoms with a copy, and what holds of the copies made so far and of those that are left.
+pub record CopiesLeft (t : ProgramTable) (q : List ℕ) (i copied-set : ℕ) (Rest : ℕ → List Copy → List Copy → Type 0) : Type 0 where
   pub past : List Copy
   pub extra : ℕ
-  pub tracks : Tracks (P .atoms) extra past (c .latest) (c .fresh)
+  pub copies : List Copy
+  pub marks : (b : ℕ) → has copied-set b ≡ copied past b
+  pub from : 3 ≤ i
   pub few : extra + 3 ≤ i
-  pub left : cs ≡ copiesFrom P extra past (drop i q)
+  pub left : copies ≡ copiesFrom (programIn t) extra past (drop i q)
+  pub rest : Rest extra past copies
 
--- What is known when the copy of entry i is made.
-pub record Turned (s q : List ℕ) (n m i : ℕ) (new : Copies) (cs : List Copy) : Type 0 where
-  pub rest : List Copy
-  pub first : cs ≡ record { atom = new .atom; var = new .var; kept = bodiesBy (new .vars) 0 (new .atom) (recordsFrom m s 5) } ∷ rest
-  pub going : Going (programOf n (recordsFrom m s 5)) q (i + 1) new rest
-  pub low : (b : ℕ) → b < 64 → getD (new .vars) b 0 < 1024
-  pub small : new .var < 1024
+pub copies-start : (t : ProgramTable) (q : List ℕ) (Rest : ℕ → List Copy → List Copy → Type 0) → Rest 0 [] (unfoldedIn t q .copies) → CopiesLeft t q 3 0 Rest
+unfolding unfoldedIn unfolded copied any
+copies-start t q Rest r = record { past = []; extra = 0; copies = unfoldedIn t q .copies; marks = zero-has; from = omega arith; few = omega arith; left = refl; rest = r }
 
-module _ (s q : List ℕ) (n m : ℕ) (names : List ℕ) (R : Ready s q n m names) where
-  abbrev P : Program
-  P = programOf n (recordsFrom m s 5)
+module _ (t : ProgramTable) (q : List ℕ) (i copied-set : ℕ) (Rest : ℕ → List Copy → List Copy → Type 0) (L : CopiesLeft t q i copied-set Rest) where
+  pub copies-end : length q ≤ i → Rest (L .extra) (L .past) []
+  unfolding copiesFrom
+  copies-end l = subst (Rest (L .extra) (L .past)) (L .left ∙ ap (copiesFrom (programIn t) (L .extra) (L .past)) (drop-of-length-le q l)) (L .rest)
 
-  pub going-start : (c : Copies) → Table (λ b. 0) (c .latest) → c .fresh ≡ n → Going P q 3 c (unfoldedOf s q n m .copies)
-  unfolding unfolded programOf
-  going-start c T f = record { past = []; extra = 0; tracks = tracks-start n (c .latest) (c .fresh) T f; few = omega arith; left = refl }
+  module _ (within : i < length q) where
+    abbrev here : Copy
+    here = copyOf t q i (L .extra) (L .past)
 
-  pub going-fresh : (i : ℕ) (c : Copies) (cs : List Copy) → Going P q i c cs → i < length q → c .fresh < 4294967295
-  unfolding programOf
-  going-fresh i c cs G l = let t = G .tracks .next in let f = G .few in let a = R .atoms in let h = R .short in omega arith
+    abbrev behind : List Copy
+    behind = copiesFrom (programIn t) (extraOf q i (L .extra)) (here ∷ L .past) (drop (i + 1) q)
 
-  pub going-turn : (i : ℕ) (old new : Copies) (cs : List Copy) → Going P q i old cs → i < length q → Made q i names old new → Turned s q n m i new cs
-  unfolding programOf copiesFrom
-  going-turn i old new cs G l M =
-      record {
-        rest = copiesFrom P (cond more (suc e) e) (copy ∷ past) (drop (i + 1) q);
-        first = G .left ∙ (ap (copiesFrom P e past) (drop-cons q i 0 l ∙ ap (λ j. a ∷ drop j q) (sym (add-one i))) ∙ ap (λ c. c ∷ copiesFrom P (cond more (suc e) e) (copy ∷ past) (drop (i + 1) q)) copy-same);
-        going = record {
-          past = copy ∷ past;
-          extra = cond more (suc e) e;
-          tracks = tracks-turn P e past old new q i names (G .tracks) M (R .atoms) within more refl (keptFor P past a);
-          few = let f = G .few in let g = counted more in omega arith;
+    first : L .copies ≡ here ∷ behind
+    unfolding copiesFrom again
+    first = L .left ∙ ap (copiesFrom (programIn t) (L .extra) (L .past)) (drop-cons q i 0 within ∙ ap (λ j. getD q i 0 ∷ drop j q) (sym (add-one i)))
+
+    -- What holds, with the copy of entry i in front.
+    pub copies-here : Rest (L .extra) (L .past) (here ∷ behind)
+    copies-here = subst (Rest (L .extra) (L .past)) first (L .rest)
+
+    extra-few : (more : Bool) → cond more (suc (L .extra)) (L .extra) + 3 ≤ i + 1
+    extra-few true = let f = L .few in omega arith
+    extra-few false = let f = L .few in omega arith
+
+    -- One copy more.
+    pub copies-turn : (a next : ℕ) (Rest′ : ℕ → List Copy → List Copy → Type 0) → a ≡ getD q i 0 → With copied-set a next
+        → ((cs : List Copy) → Rest (L .extra) (L .past) (here ∷ cs) → Rest′ (extraOf q i (L .extra)) (here ∷ L .past) cs) → CopiesLeft t q (i + 1) next Rest′
+    unfolding copied any
+    copies-turn a next Rest′ e W f =
+        record {
+          past = here ∷ L .past;
+          extra = extraOf q i (L .extra);
+          copies = behind;
+          marks = λ b. W .members b ∙ ap₂ (λ (x y : Bool). x || y) (ap (eqb b) e ∙ flip b (getD q i 0)) (L .marks b);
+          from = let g = L .from in omega arith;
+          few = extra-few (again q i);
           left = refl;
-        };
-        low = λ b h. let v = vars-low P wf (R .atoms) e past (old .latest) (old .fresh) (G .tracks) names (R .named) a within (new .vars) (M .vars) b h in let f = G .few in let t = R .atoms in let k = R .short in omega arith;
-        small = let v = made-var P e past old new q i names (G .tracks) M (R .atoms) within more refl in let w = var-low P e past old new q i names (G .tracks) M (R .atoms) within more refl in
-            let g = counted more in let f = G .few in let t = R .atoms in let k = R .short in omega arith;
+          rest = f behind copies-here;
+        }
+      where
+        flip : (x y : ℕ) → eqb x y ≡ eqb y x
+        flip x y = bool-ext (λ t. eq-eqb y x (sym (eqb-true x y t))) (λ t. eq-eqb x y (sym (eqb-true y x t)))
+
+pub ready-below : (t : ProgramTable) (names sets q : List ℕ) → Ready t names sets q → below 64 (entries q) ≡ true
+ready-below t names sets q R = below-more (t .atoms) 64 (entries q) (R .readable .atoms) (R .low)
+
+-- The atom of an entry.
+module _ (t : ProgramTable) (names sets q : List ℕ) (R : Ready t names sets q) (i : ℕ) (from : 3 ≤ i) (within : i < length q) where
+  pub entry-atom : getD q i 0 < t .atoms
+  entry-atom = entry-below q i (t .atoms) from within (R .low)
+
+  pub entry-at : EntryAt names q i
+  entry-at = let l = entry-atom in let n = R .readable .atoms in record { from = from; within = within; atom = omega arith; name = name-low t names sets q R (getD q i 0) entry-atom }
+
+-- The table of latest copies and the highest variable follow the copies made so far, e of which are not their atom's last.
+pub record Tracks (n e : ℕ) (past : List Copy) (table : List ℕ) (fresh : ℕ) : Type 0 where
+  pub long : length table ≡ 64
+  pub is : (b : ℕ) → b < 64 → getD table b 0 ≡ latest past b
+  pub low : (b : ℕ) → latest past b ≤ n + e
+  pub next : fresh ≡ n + e
+
+pub tracks-start : (n : ℕ) → Tracks n 0 [] (replicate 64 0) n
+unfolding latest
+tracks-start n = record { long = length-replicate {A = ℕ} 64 0; is = λ b l. getD-replicate 64 b 0 0 l; low = λ b. omega arith; next = omega arith }
+
+-- The copy of entry i: its variable, its rules, and the tables behind it.
+module _ (t : ProgramTable) (names sets q : List ℕ) (R : Ready t names sets q) (i e : ℕ) (past : List Copy) (few : e + 3 ≤ i) (within : i < length q)
+    (table : List ℕ) (fresh : ℕ) (T : Tracks (t .atoms) e past table fresh) (c : EntryCopy) (M : Made q i names sets fresh c) where
+  abbrev n : ℕ
+  n = t .atoms
+
+  a-low : getD q i 0 < t .atoms
+  a-low = entry-atom t names sets q R i (omega arith) within
+
+  var-is : c .var ≡ variable (programIn t) e (getD q i 0) (again q i)
+  unfolding variable last programIn
+  var-is = M .var ∙ ap (λ k. cond (again q i) k (suc (getD q i 0))) (let f = T .next in let g : suc fresh ≡ t .atoms + suc e = omega arith in g)
+
+  var-low : variable (programIn t) e (getD q i 0) (again q i) ≤ n + extraOf q i e
+  unfolding variable last programIn
+  var-low = both (again q i)
+    where
+      both : (more : Bool) → cond more (t .atoms + suc e) (suc (getD q i 0)) ≤ t .atoms + cond more (suc e) e
+      both true = omega arith
+      both false = let l = a-low in omega arith
+
+  pub tracks-turn : Tracks n (extraOf q i e) (copyOf t q i e past ∷ past) (set table (c .atom) (c .var)) (c .fresh)
+  unfolding latest
+  tracks-turn =
+      record {
+        long = length-set table (c .atom) (c .var) ∙ T .long;
+        is = λ b l. let w = T .long in let k = M .low in
+            stored table (c .atom) (c .var) b (omega arith)
+            ∙ (ap (λ x. cond (eqb b x) (c .var) (getD table b 0)) (M .atom)
+            ∙ by-bool (eqb b (getD q i 0))
+            (λ y. rw (y, eq-eqb (getD q i 0) b (sym (eqb-true b (getD q i 0) y))) var-is)
+            (λ z. rw (z, ne-eqb (getD q i 0) b (λ g. eqb-false b (getD q i 0) z (sym g))) (T .is b l)));
+        low = λ b. by-bool (eqb (getD q i 0) b) (λ y. rw y var-low) (λ z. rw z (let l = T .low b in let g = grows (again q i) in omega arith));
+        next = M .fresh ∙ counted (again q i);
       }
     where
-      e : ℕ
-      e = G .extra
+      grows : (more : Bool) → e ≤ cond more (suc e) e
+      grows true = omega arith
+      grows false = omega arith
 
-      past : List Copy
-      past = G .past
+      counted : (more : Bool) → cond more (suc fresh) fresh ≡ t .atoms + cond more (suc e) e
+      counted true = let f = T .next in omega arith
+      counted false = T .next
 
-      a : ℕ
-      a = getD q i 0
+  pub var-small : c .var < 1024
+  var-small = let v = var-is in let w = var-low in let g = most (again q i) in let f = R .readable .atoms in let k = R .short in omega arith
+    where
+      most : (more : Bool) → cond more (suc e) e ≤ suc e
+      most true = omega arith
+      most false = omega arith
 
-      more : Bool
-      more = member a (drop (i + 1) q)
+  -- The rules of the copy, over the variables that stand in them.
+  module _ (copied-set : ℕ) (marks : (b : ℕ) → has copied-set b ≡ copied past b) (k : KeptRules)
+      (K : Kept (t .heads) (t .pos) (t .neg) (t .rules) (c .atom) (c .component) copied-set k)
+      (lasts vars : List ℕ) (F : Values last lasts) (O : Overlaid (c .component) table lasts vars) where
+    stands : (b : ℕ) → b < t .atoms → getD vars b 0 ≡ replaced (programIn t) past (getD q i 0) b
+    unfolding replaced
+    stands b l =
+        let f = R .readable .atoms in
+        O .is b (omega arith)
+        ∙ (ap (λ (x : Bool). cond x (getD table b 0) (getD lasts b 0)) (ap (λ x. has x b) (M .component ∙ ap (componentSet names sets) (M .atom)) ∙ component-has t names sets q R (getD q i 0) b a-low l)
+        ∙ ap₂ (λ x y. cond (sameComponent (programIn t) (getD q i 0) b) x y) (T .is b (omega arith)) (F .is b (omega arith)))
 
-      copy : Copy
-      copy = record { atom = a; var = variable P e a more; kept = keptFor P past a }
+    pub copy-is : copyOf t q i e past ≡ record { atom = c .atom; var = c .var; kept = bodiesBy (t .pos) (t .neg) vars (k .entries) (k .rules) }
+    copy-is =
+        let at-atom = subst (λ x. Kept (t .heads) (t .pos) (t .neg) (t .rules) x (componentSet names sets x) copied-set k) (M .atom)
+        (subst (λ x. Kept (t .heads) (t .pos) (t .neg) (t .rules) (c .atom) x copied-set k) (M .component) K) in
+        let bodies = kept-bodies t names sets q R past copied-set marks (getD q i 0) a-low k at-atom vars stands in
+        rw (M .atom, var-is, bodies) refl
 
-      wf : wellFormed P ≡ true
-      wf = walk-formed s n m (R .walk)
-
-      within : getD q i 0 < n
-      within = entry-low q i n (let f = G .few in omega arith) l (R .atoms) (R .low)
-
-      counted : (b : Bool) → cond b (suc e) e ≤ suc e
-      counted true = omega arith
-      counted false = omega arith
-
-      kept : bodiesBy (new .vars) 0 a (recordsFrom m s 5) ≡ keptFor P past a
-      kept = kept-same P wf (R .atoms) e past (old .latest) (old .fresh) (G .tracks) names (R .named) a within (new .vars) (M .vars) (recordsFrom m s 5) (walk-sound s n m 5 (R .walk)) refl
-
-      copy-same : copy ≡ record { atom = new .atom; var = new .var; kept = bodiesBy (new .vars) 0 (new .atom) (recordsFrom m s 5) }
-      copy-same =
-          rw (M .atom, kept, made-var P e past old new q i names (G .tracks) M (R .atoms) within more refl) refl
-
-  pub going-end : (i : ℕ) (c : Copies) (cs : List Copy) → Going P q i c cs → length q ≤ i → cs ≡ []
-  unfolding copiesFrom
-  going-end i c cs G l = G .left ∙ ap (copiesFrom P (G .extra) (G .past)) (drop-of-length-le q l)
+    pub vars-small : (b : ℕ) → b < 64 → getD vars b 0 < 1024
+    unfolding last
+    vars-small b l =
+        subst (λ x. x < 1024) (sym (O .is b l))
+        (by-bool (has (c .component) b)
+        (λ y. rw y (let g = T .is b l in let h = T .low b in let f = R .readable .atoms in let s = R .short in omega arith))
+        (λ z. rw z (let g = F .is b l in omega arith)))

@@ -1,7 +1,8 @@
-pub mod Indexing
-pub mod Choosing
 pub mod Tables
-pub mod Tracking
+pub mod Placing
+pub mod Keeping
+pub mod Selecting
 pub mod Going
 pub mod Sizes
 pub mod Totalling
+pub mod Emitting

@@ -1,31 +1,42 @@
 -- Bounds of the unfolded program: how many bodies a copy has and how many atoms they have.
 use mathlib.Core.Bool.{Bool}
-use mathlib.Core.List.{List, [], _∷_, map, flatMap, List·Memᴰ, List·Memᴰ·head, List·Memᴰ·tail, List·Memᴰ·not-nil, List·Memᴰ·cases-cons, Memᴰ·of-map}
+use mathlib.Core.List.{List, [], _∷_, map, map-map, flatMap, List·Memᴰ, List·Memᴰ·head, List·Memᴰ·tail, List·Memᴰ·not-nil, List·Memᴰ·cases-cons, Memᴰ·of-map}
 use mathlib.Core.Logic.{⊎-elim}
-use mathlib.Core.Path.{_≡_, refl, sym, _∙_, subst}
+use mathlib.Core.Path.{_≡_, refl, sym, _∙_, ap, subst}
 use Prim.Native.Nat.{ℕ, _+_, _-_, _*_, _≤_}
 use native.Mathlib.Nat.{suc-mul}
 use native.Mathlib.Omega.{arith}
-use lib.Dec.{eqb}
-use lib.ListN.{length, length-append, length-map, length-drop}
-use Rattle.lists.specs.Lists.{filter, member}
+use lib.ListN.{length, length-append, length-map, length-drop, getD}
+use Rattle.lists.specs.Lists.{filter, member, range}
 use Rattle.lists.proofs.Bools.{by-bool}
-use Rattle.lists.proofs.Members.{filter-out}
+use Rattle.lists.proofs.Members.{map-cong, filter-out, flatMap-out}
+use Rattle.lists.proofs.Nodup.{length-range}
 use Rattle.asp.specs.Program.{Body, Rule, Program}
 use Rattle.unfolding.specs.Unfolded.{Copy, last, renamed, replaced, isKept, keptFor, variable, copiesFrom, unfolded}
 use Rattle.unfolding.proofs.Numbering.{counted, copies-length}
-use Rattle.sheet.specs.Sheet.{Record, recordsFrom, rulesOf, constraintsOf, programOf}
+use Rattle.bits.specs.inner.Visited.{listed}
+use Rattle.bits.proofs.Visiting.{listed-few}
 use Rattle.sheet.specs.Sequence.{entries}
-use Rattle.copies.specs.Ready.{Ready, unfoldedOf}
-use Rattle.copies.proofs.Tracking.{Short, walk-short, records-length}
+use Rattle.program.specs.inner.Held.{bodyOf, ruleOf, rulesAt, bodiesAt, programIn}
+use Rattle.program.specs.declared.ProgramTable.{ProgramTable}
+use Rattle.copies.specs.inner.Tables.{Values}
+use Rattle.copies.specs.inner.Bodies.{bodyBy, entryBody, atomCount, atomsAt}
+use Rattle.copies.specs.inner.Ready.{Ready, unfoldedIn}
+use Rattle.copies.specs.inner.Totals.{keptBodies}
+use Rattle.copies.proofs.Tables.{listed-last}
+use Rattle.copies.proofs.Selecting.{atoms-renamed}
+
+-- A body of at most 128 atoms.
+unfoldable pub Short : Body → Type 0
+Short b = length (b .pos) + length (b .neg) ≤ 128
 
 -- At most 128 bodies of at most 128 atoms each.
 pub record Sized (bs : List Body) : Type 0 where
   pub few : length bs ≤ 128
-  pub short : (b : Body) → List·Memᴰ b bs → length (b .pos) + length (b .neg) ≤ 128
+  pub short : (b : Body) → List·Memᴰ b bs → Short b
 
 -- Lists that are each at most k long, one behind the other.
-pub flatMap-bound : {A B : Type 0} (f : A → List B) (k : ℕ) (l : List A) → ((x : A) → List·Memᴰ x l → length (f x) ≤ k) → length (flatMap f l) ≤ length l * k
+flatMap-bound : {A B : Type 0} (f : A → List B) (k : ℕ) (l : List A) → ((x : A) → List·Memᴰ x l → length (f x) ≤ k) → length (flatMap f l) ≤ length l * k
 unfolding flatMap
 flatMap-bound f k [] h = omega arith
 flatMap-bound f k (x ∷ l) h =
@@ -40,42 +51,35 @@ unfolding filter
 filter-size p [] = omega arith
 filter-size p (x ∷ l) = let h = filter-size p l in by-bool (p x) (λ t. rw t (omega arith)) (λ f. rw f (omega arith))
 
-renamed-size : (f : ℕ → ℕ) (b : Body) → length (renamed f b .pos) + length (renamed f b .neg) ≡ length (b .pos) + length (b .neg)
-unfolding renamed
-renamed-size f b = let p = length-map (b .pos) f in let q = length-map (b .neg) last in omega arith
+-- Bodies of at most 128 atoms each.
+atoms-bound : (bs : List Body) → ((b : Body) → List·Memᴰ b bs → Short b) → atomCount bs ≤ length bs * 128
+unfolding atomCount Short
+atoms-bound [] h = omega arith
+atoms-bound (b ∷ bs) h = let f = h b (List·Memᴰ·head refl) in let g = atoms-bound bs (λ x m. h x (List·Memᴰ·tail m)) in let k = suc-mul (length bs) 128 in omega arith
 
-module _ (s q : List ℕ) (n m : ℕ) (names : List ℕ) (R : Ready s q n m names) where
+renamed-short : (f : ℕ → ℕ) (pos neg : ℕ) → Short (renamed f (bodyOf pos neg))
+unfolding renamed bodyOf Short
+renamed-short f pos neg =
+    let p = length-map (bodyOf pos neg .pos) f in
+    let n = length-map (bodyOf pos neg .neg) last in
+    let u = listed-few pos in
+    let v = listed-few neg in
+    omega arith
+
+module _ (t : ProgramTable) (names sets q : List ℕ) (R : Ready t names sets q) where
   abbrev P : Program
-  P = programOf n (recordsFrom m s 5)
-
-  -- The bodies of records, renamed.
-  record-short : (r : Record) → List·Memᴰ r (recordsFrom m s 5) → length (r .body .pos) + length (r .body .neg) ≤ 128
-  unfolding Short
-  record-short r k = let h = walk-short s n m 5 (R .walk) r k in let a = R .atoms in omega arith
-
-  rule-short : (r : Rule) → List·Memᴰ r (P .rules) → length (r .body .pos) + length (r .body .neg) ≤ 128
-  unfolding programOf rulesOf
-  rule-short r k =
-      let u = Memᴰ·of-map (λ (r : Record). record { head = r .head; body = r .body }) (filter (λ r. eqb (r .kind) 0) (recordsFrom m s 5)) k in
-      subst (λ (r : Rule). length (r .body .pos) + length (r .body .neg) ≤ 128) (u .2) (record-short (u .0) (filter-out (λ (r : Record). eqb (r .kind) 0) (recordsFrom m s 5) (u .0) (u .1) .0))
-
-  rules-few : length (P .rules) ≤ 128
-  unfolding programOf rulesOf
-  rules-few =
-      let a = length-map {B = Rule} (filter (λ (r : Record). eqb (r .kind) 0) (recordsFrom m s 5)) (λ (r : Record). record { head = r .head; body = r .body }) in
-      let b = filter-size (λ (r : Record). eqb (r .kind) 0) (recordsFrom m s 5) in
-      let c = records-length m s 5 in
-      let d = R .records in
-      omega arith
+  P = programIn t
 
   kept-sized : (past : List Copy) (a : ℕ) → Sized (keptFor P past a)
-  unfolding keptFor
+  unfolding keptFor programIn rulesAt ruleOf
   kept-sized past a =
+      let rule : ℕ → Rule = λ i. ruleOf (getD (t .heads) i 0) (getD (t .pos) i 0) (getD (t .neg) i 0) in
       record {
-        few = let x = length-map (filter (isKept P past a) (P .rules)) (λ (r : Rule). renamed (replaced P past a) (r .body)) in let y = filter-size (isKept P past a) (P .rules) in let z = rules-few in omega arith;
+        few = let x = length-map (filter (isKept P past a) (P .rules)) (λ (r : Rule). renamed (replaced P past a) (r .body)) in let y = filter-size (isKept P past a) (P .rules) in
+            let z = length-map (range 0 (t .rules)) rule in let w = length-range 0 (t .rules) in let f = R .readable .few in omega arith;
         short = λ b k. let u = Memᴰ·of-map (λ (r : Rule). renamed (replaced P past a) (r .body)) (filter (isKept P past a) (P .rules)) k in
-            subst (λ (b : Body). length (b .pos) + length (b .neg) ≤ 128) (u .2)
-            (let f = renamed-size (replaced P past a) (u .0 .body) in let h = rule-short (u .0) (filter-out (isKept P past a) (P .rules) (u .0) (u .1) .0) in omega arith);
+            let w = Memᴰ·of-map rule (range 0 (t .rules)) (filter-out (isKept P past a) (P .rules) (u .0) (u .1) .0) in
+            subst Short (u .2) (subst (λ (r : Rule). Short (renamed (replaced P past a) (r .body))) (w .2) (renamed-short (replaced P past a) (getD (t .pos) (w .0) 0) (getD (t .neg) (w .0) 0)));
       }
 
   copies-sized : (l : List ℕ) (e : ℕ) (past : List Copy) (c : Copy) → List·Memᴰ c (copiesFrom P e past l) → Sized (c .kept)
@@ -86,23 +90,62 @@ module _ (s q : List ℕ) (n m : ℕ) (names : List ℕ) (R : Ready s q n m name
       (λ i. copies-sized l (counted e (member a l)) (record { atom = a; var = variable P e a (member a l); kept = keptFor P past a } ∷ past) c i)
       (List·Memᴰ·cases-cons k)
 
-  pub copy-sized : (c : Copy) → List·Memᴰ c (unfoldedOf s q n m .copies) → Sized (c .kept)
-  unfolding unfolded
+  copy-sized : (c : Copy) → List·Memᴰ c (unfoldedIn t q .copies) → Sized (c .kept)
+  unfolding unfoldedIn unfolded
   copy-sized c k = copies-sized (entries q) 0 [] c k
 
-  pub constraints-sized : Sized (unfoldedOf s q n m .constraints)
-  unfolding unfolded programOf constraintsOf
-  constraints-sized =
-      let bs : List Body = map (λ (r : Record). r .body) (filter (λ (r : Record). eqb (r .kind) 1) (recordsFrom m s 5)) in
-      record {
-        few = let x = length-map bs (renamed last) in let y = length-map (filter (λ (r : Record). eqb (r .kind) 1) (recordsFrom m s 5)) (λ (r : Record). r .body) in
-            let z = filter-size (λ (r : Record). eqb (r .kind) 1) (recordsFrom m s 5) in let c = records-length m s 5 in let d = R .records in omega arith;
-        short = λ b k. let u = Memᴰ·of-map (renamed last) bs k in let w = Memᴰ·of-map (λ (r : Record). r .body) (filter (λ (r : Record). eqb (r .kind) 1) (recordsFrom m s 5)) (u .1) in
-            subst (λ (b : Body). length (b .pos) + length (b .neg) ≤ 128) (u .2)
-            (let f = renamed-size last (u .0) in
-            let h = subst (λ (b : Body). length (b .pos) + length (b .neg) ≤ 128) (w .2) (record-short (w .0) (filter-out (λ (r : Record). eqb (r .kind) 1) (recordsFrom m s 5) (w .0) (w .1) .0)) in omega arith);
-      }
-
-  pub copies-number : length (unfoldedOf s q n m .copies) ≡ length q - 3
-  unfolding unfolded
+  pub copies-number : length (unfoldedIn t q .copies) ≡ length q - 3
+  unfolding unfoldedIn unfolded
   copies-number = copies-length P (entries q) 0 [] ∙ length-drop 3 q
+
+  pub rules-short : length (keptBodies (unfoldedIn t q .copies)) ≤ 81920
+  rules-short =
+      let e = flatMap-bound (λ (c : Copy). c .kept) 128 (unfoldedIn t q .copies) (λ c k. copy-sized c k .few) in
+      let f = copies-number in
+      let g = R .short in
+      omega arith
+
+  pub atoms-short : atomCount (keptBodies (unfoldedIn t q .copies)) ≤ 10485760
+  atoms-short =
+      let e = atoms-bound (keptBodies (unfoldedIn t q .copies))
+      (λ b k. let u = flatMap-out (λ (c : Copy). c .kept) (unfoldedIn t q .copies) b k in copy-sized (u .0) (u .1) .short b (u .2)) in
+      let f = rules-short in
+      omega arith
+
+  -- The constraints.
+  abbrev body : ℕ → Body
+  body i = bodyOf (getD (t .pos) i 0) (getD (t .neg) i 0)
+
+  constraints-are : unfoldedIn t q .constraints ≡ map (λ i. renamed last (bodyOf (getD (t .pos) i 0) (getD (t .neg) i 0))) (range (t .rules) (t .constraints))
+  unfolding unfoldedIn unfolded programIn bodiesAt
+  constraints-are = map-map (renamed last) body (range (t .rules) (t .constraints))
+
+  -- By a table of last copies.
+  pub constraints-by-last : (lasts : List ℕ) → Values last lasts → map (entryBody (t .pos) (t .neg) lasts) (range (t .rules) (t .rules + t .constraints - t .rules)) ≡ unfoldedIn t q .constraints
+  unfolding entryBody bodyBy renamed bodyOf
+  constraints-by-last lasts F =
+      ap (λ k. map (entryBody (t .pos) (t .neg) lasts) (range (t .rules) k)) (let e : t .rules + t .constraints - t .rules ≡ t .constraints = omega arith in e)
+      ∙ (map-cong (entryBody (t .pos) (t .neg) lasts) (λ i. renamed last (body i)) (range (t .rules) (t .constraints))
+      (λ i m. ap (λ ps. record { pos = ps; neg = map last (listed (getD (t .neg) i 0)) }) (listed-last lasts (getD (t .pos) i 0) F))
+      ∙ sym constraints-are)
+
+  pub constraints-number : t .constraints ≡ length (unfoldedIn t q .constraints)
+  constraints-number =
+      sym (ap length constraints-are ∙ (length-map (range (t .rules) (t .constraints)) (λ i. renamed last (body i)) ∙ length-range (t .rules) (t .constraints)))
+
+  pub constraints-atoms : atomsAt (t .pos) (t .neg) (t .rules) (t .rules + t .constraints) ≡ atomCount (unfoldedIn t q .constraints)
+  unfolding atomsAt bodiesAt
+  constraints-atoms =
+      ap (λ k. atomCount (map body (range (t .rules) k))) (let e : t .rules + t .constraints - t .rules ≡ t .constraints = omega arith in e)
+      ∙ sym (ap atomCount constraints-are ∙ atoms-renamed last body (range (t .rules) (t .constraints)))
+
+  pub constraints-few : length (unfoldedIn t q .constraints) ≤ 128
+  constraints-few = let e = constraints-number in let f = R .readable .few in omega arith
+
+  pub constraints-short : atomCount (unfoldedIn t q .constraints) ≤ 16384
+  constraints-short =
+      let e = atoms-bound (unfoldedIn t q .constraints)
+      (λ b k. let u = Memᴰ·of-map (λ i. renamed last (body i)) (range (t .rules) (t .constraints)) (subst (λ bs. List·Memᴰ b bs) constraints-are k) in
+      subst Short (u .2) (renamed-short last (getD (t .pos) (u .0) 0) (getD (t .neg) (u .0) 0))) in
+      let f = constraints-few in
+      omega arith

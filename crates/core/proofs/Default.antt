@@ -16,53 +16,55 @@ use Rattle.unfolding.specs.Default.{members, defaultSequence}
 use Rattle.unfolding.proofs.Chains.{passes-iff}
 use Rattle.unfolding.proofs.Default.{default-passes, default-short, default-below}
 use Rattle.sheet.specs.Questions.{ask}
-use Rattle.sheet.specs.Format.{atomsByte, formQuestions}
+use Rattle.sheet.specs.Format.{atomsByte}
 use Rattle.sheet.specs.Sheet.{programOf, program}
 use Rattle.sheet.specs.Sequence.{entriesField, entries, sequenceFits}
 use Rattle.sheet.specs.declared.Limits.{Limits}
 use Rattle.sheet.proofs.Records.{ask-yes, then-zero}
-use Rattle.sheet.proofs.Walk.{formed, program-formed, then-passed, ask-passed}
-use Rattle.components.specs.Table.{componentsFit, sheetQuestions}
-use Rattle.core.specs.Outputs.{sequenceBytes, defaultBytes}
-use Rattle.core.specs.Operations.{DefaultAccepted}
+use Rattle.sheet.proofs.Walk.{formed, program-formed}
+use Rattle.components.specs.Limit.{componentsFit}
+use Rattle.core.specs.Outputs.{sequenceBytes, defaultOutput}
+use Rattle.core.specs.Questions.{question9, readQuestions}
+use Rattle.core.specs.Demands.{DefaultAccepted}
+use Rattle.core.proofs.Chains.{Passed, read-passed, test-asked}
 
-module _ (L : Limits) (s : List ℕ) (accepted : sheetQuestions L s ≡ 0) where
-  parts : (formQuestions L s ≡ 0) × (ask (componentsFit (L .component) (program s)) 7 ≡ 0)
-  unfolding sheetQuestions
-  parts = then-passed (formQuestions L s) (ask (componentsFit (L .component) (program s)) 7) accepted
+module _ (L : Limits) (s : List ℕ) (accepted : readQuestions L s ≡ 0) where
+  passed : Passed L s
+  passed = read-passed L s accepted
 
   -- The length of the default sequence of a sheet that questions 1 to 7 pass.
   pub default-length : length (defaultSequence (program s)) ≤ L .component * atomsByte s
   unfolding componentsFit program programOf
   default-length =
-      let fit = ask-passed (componentsFit (L .component) (program s)) 7 (λ e. omega arith) (parts .1) in
       default-short (program s) (L .component) (λ c l. leb-true (length (members (program s) c)) (L .component)
-      (all-at (λ c. leb (length (members (program s) c)) (L .component)) (range 0 (atomsByte s)) fit c (range-in 0 (atomsByte s) c (omega arith) (omega arith))))
+      (all-at (λ c. leb (length (members (program s) c)) (L .component)) (range 0 (atomsByte s)) (passed .components) c (range-in 0 (atomsByte s) c (omega arith) (omega arith))))
 
   module _ (enough : L .component * L .atoms ≤ L .entries) (two-bytes : L .entries < 65536) where
     few : length (defaultSequence (program s)) ≤ L .entries
     few =
         let a = default-length in
-        let b = mul-le-mul-left (L .component) (formed L s (parts .0) .atoms) in
+        let b = mul-le-mul-left (L .component) (formed L s (passed .form) .atoms) in
         omega arith
 
-    eighth : sequenceFits L (atomsByte s) (defaultBytes s) ≡ true
-    unfolding sequenceFits defaultBytes sequenceBytes program programOf
+    eighth : sequenceFits L (atomsByte s) (defaultOutput s) ≡ true
+    unfolding sequenceFits defaultOutput sequenceBytes program programOf
     eighth =
         let t = length (defaultSequence (program s)) in
         let k = few in
         let field : (t / 256 % 256) * 256 + t % 256 ≡ t = omega arith in
-        let q = defaultBytes s in
+        let q = defaultOutput s in
         and-intro
         (and-intro (and-intro (and-intro (le-leb 3 (length q) (omega arith)) refl) (le-leb (entriesField q) (L .entries) (omega arith)))
         (eq-eqb (length q) (3 + entriesField q) (omega arith)))
         (default-below (program s))
 
-    ninth : passes (program s) (entries (defaultBytes s)) ≡ true
-    unfolding defaultBytes sequenceBytes
-    ninth = passes-iff (program s) (program-formed L s (parts .0)) (defaultSequence (program s)) .1 (default-passes (program s) (program-formed L s (parts .0)))
+    ninth : passes (program s) (entries (defaultOutput s)) ≡ true
+    unfolding defaultOutput sequenceBytes
+    ninth = passes-iff (program s) (program-formed L s (passed .form)) (defaultSequence (program s)) .1 (default-passes (program s) (program-formed L s (passed .form)))
 
 pub default-accepted : (L : Limits) → L .component * L .atoms ≤ L .entries → L .entries < 65536 → DefaultAccepted L
 unfolding ask
 default-accepted L enough two-bytes s accepted =
-    then-zero (sheetQuestions L s) _ accepted ∙ (ask-yes (eighth L s accepted enough two-bytes) 8 _ ∙ rw (ninth L s accepted enough two-bytes) refl)
+    test-asked L s (defaultOutput s)
+    ∙ (then-zero (readQuestions L s) _ accepted
+    ∙ (ask-yes (eighth L s accepted enough two-bytes) 8 (question9 s (defaultOutput s)) ∙ rw (ninth L s accepted enough two-bytes) refl))

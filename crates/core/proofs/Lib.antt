@@ -1,3 +1,6 @@
+pub mod Chains
+pub mod Outcomes
+pub mod Asking
 pub mod Counting
 pub mod Default
 pub mod Reading

@@ -1,55 +1,45 @@
 -- Laws of reading and of showing a body.
-use mathlib.Core.Bool.{cond}
 use mathlib.Core.List.{List, [], _∷_}
 use mathlib.Core.Path.{_≡_, refl, sym, _∙_, ap}
 use Prim.Native.Nat.{ℕ, zero, suc, _+_, _-_, _≤_, _<_}
 use native.Mathlib.Numerals.{sub-one}
 use native.Mathlib.Omega.{arith}
-use borrow.Author.Tests.{eq-eqb, ne-eqb, lt-ltb, le-ltb}
+use borrow.Author.Tests.{eq-eqb, eqb-true, ne-eqb, lt-ltb, le-ltb}
 use lib.Dec.{eqb, ltb}
-use lib.ListN.{length}
-use Rattle.bits.specs.Sets.{ByteAt}
+use Rattle.lists.proofs.Bools.{by-bool}
+use Rattle.bits.specs.inner.Sets.{ByteAt}
 use Rattle.sheet.specs.Questions.{ask}
 use Rattle.sheet.specs.Format.{atomsByte, recordsByte, end, positives, part}
-use Rattle.sheet.specs.Sheet.{Walk, Stepped, recordsFrom, programOf, program, records}
+use Rattle.sheet.specs.inner.Walk.{Walk, Stepped}
 use Rattle.sheet.specs.declared.Limits.{Limits}
 use Rattle.sheet.proofs.Records.{then-refused, then-zero}
 use Rattle.sheet.proofs.Walk.{formed, walk-known}
-use Rattle.components.specs.Table.{sheetQuestions}
-use Rattle.components.specs.Analysed.{Accepted, Analysed}
-use Rattle.components.specs.declared.Analysis.{Analysis}
-use Rattle.core.specs.Outcome.{refused, answered, outcome}
-use Rattle.core.specs.Outputs.{offset, place, stretch}
-use Rattle.core.specs.Operations.{bodyQuestions}
-use Rattle.core.specs.Bodies.{Placed, BodyFound}
+use Rattle.core.specs.declared.Asked.{Asked}
+use Rattle.core.specs.Outcome.{answered}
+use Rattle.core.specs.Outputs.{offset, place, bodyEnd, bodyPositives, slice}
+use Rattle.core.specs.Questions.{readQuestions, bodyQuestions}
+use Rattle.core.specs.Promises.{readOutcome, ReadPromise, bodyOutcome, BodyPromise, SlicePromise, bodyAt, nowhere, bodyPlace, FindPromise}
+use Rattle.core.specs.inner.Places.{Placed}
+use Rattle.core.specs.inner.Asked.{SheetAsked}
+use Rattle.core.specs.declared.BodyAnswer.the-variants as body
 use Rattle.core.specs.declared.BodyPlace.{BodyPlace}
+use Rattle.core.specs.declared.ReadAnswer.the-variants as read
+use Rattle.core.proofs.Asking.{held-atoms}
+use Rattle.core.proofs.Outcomes.{outcome-refused, outcome-answered}
 
--- Outcomes.
-pub outcome-refused : (q r : ℕ) (values : List ℕ) → r ≡ q → (r ≡ 0 → ⊥) → refused r ≡ outcome q values
-unfolding outcome
-outcome-refused q r values e ne = ap refused e ∙ sym (rw (ne-eqb q 0 (λ z. ne (e ∙ z))) refl)
+module _ (L : Limits) (s : List ℕ) (r : Asked) (A : SheetAsked L s r) where
+  pub read-refused : (r .refusal ≡ 0 → ⊥) → ReadPromise L s (read.Refused (r .refusal))
+  unfolding ReadPromise readOutcome
+  read-refused ne = outcome-refused (readQuestions L s) (r .refusal) (atomsByte s ∷ recordsByte s ∷ []) (A .says) ne
 
-pub outcome-answered : (q r : ℕ) (values : List ℕ) → r ≡ q → r ≡ 0 → answered values ≡ outcome q values
-unfolding outcome
-outcome-answered q r values e z = sym (rw (eq-eqb q 0 (sym e ∙ z)) refl)
-
-module _ (L : Limits) (s : List ℕ) (r : Analysis) (A : Analysed L s r) where
-  pub read-refused : (values : List ℕ) → (r .refusal ≡ 0 → ⊥) → refused (r .refusal) ≡ outcome (sheetQuestions L s) values
-  read-refused values ne = outcome-refused (sheetQuestions L s) (r .refusal) values (A .says) ne
-
-  pub read-header : r .refusal ≡ 0 → answered (r .atoms ∷ r .records ∷ []) ≡ outcome (sheetQuestions L s) (atomsByte s ∷ recordsByte s ∷ [])
+  pub read-header : r .refusal ≡ 0 → ReadPromise L s (read.Header (r .program .atoms) (r .records))
+  unfolding ReadPromise readOutcome
   read-header z =
       let K = A .accepted z in
-      ap (λ n. answered (n ∷ r .records ∷ [])) (K .atoms) ∙ (ap (λ m. answered (atomsByte s ∷ m ∷ [])) (K .records)
-      ∙ outcome-answered (sheetQuestions L s) (r .refusal) (atomsByte s ∷ recordsByte s ∷ []) (A .says) z)
+      rw (held-atoms L s r K, K .number) (outcome-answered (readQuestions L s) (atomsByte s ∷ recordsByte s ∷ []) (sym (A .says) ∙ z))
 
-  pub walk-accepted : r .refusal ≡ 0 → Walk s (r .atoms) (r .records) 5
-  walk-accepted z = let K = A .accepted z in rw (K .atoms, K .records) (formed L s (K .form) .walk)
-
--- The program of the records that are read is the sheet's.
-pub program-read : (L : Limits) (s : List ℕ) (r : Analysis) → Accepted L s r → programOf (r .atoms) (recordsFrom (r .records) s 5) ≡ program s
-unfolding program records
-program-read L s r K = ap (λ n. programOf n (recordsFrom (r .records) s 5)) (K .atoms) ∙ ap (λ m. programOf (atomsByte s) (recordsFrom m s 5)) (K .records)
+  pub walk-accepted : r .refusal ≡ 0 → Walk s (r .program .atoms) (r .records) 5
+  walk-accepted z = let K = A .accepted z in rw (held-atoms L s r K, K .number) (formed L s (K .form) .walk)
 
 -- Going on to a record.
 pub record Going (s : List ℕ) (n number left at i : ℕ) : Type 0 where
@@ -83,60 +73,76 @@ module _ (s : List ℕ) (n number : ℕ) where
       record { is = ap (λ j. offset j s at) (sym z) ∙ G .same; known = walk-known s n left at (G .walk) (omega arith) }
 
 -- The body.
-module _ (L : Limits) (i : ℕ) (s : List ℕ) (r : Analysis) (A : Analysed L s r) where
-  pub body-refused : (b : BodyPlace) → (r .refusal ≡ 0 → ⊥) → b .refusal ≡ r .refusal → BodyFound L i s b
-  body-refused b ne e =
-      record { says = e ∙ (A .says ∙ sym (then-refused (sheetQuestions L s) _ (λ z. ne (A .says ∙ z)))); shown = λ z. absurd (ne (sym e ∙ z)) }
+module _ (L : Limits) (i : ℕ) (s : List ℕ) where
+  find-nowhere : (b : BodyPlace) (refusal : ℕ) → b ≡ nowhere refusal → refusal ≡ bodyQuestions L i s → (refusal ≡ 0 → ⊥) → FindPromise L i s b
+  unfolding bodyPlace
+  find-nowhere b refusal e same ne =
+      let is : nowhere refusal ≡ bodyPlace L i s = ap nowhere same ∙ sym (rw (ne-eqb (bodyQuestions L i s) 0 (λ z. ne (same ∙ z))) refl) in
+      rw e (record { is = is; order = omega arith; inside = omega arith })
 
-  module _ (z : r .refusal ≡ 0) where
-    twelfth : bodyQuestions L i s ≡ ask (ltb i (recordsByte s)) 12
-    twelfth = then-zero (sheetQuestions L s) _ (sym (A .says) ∙ z)
+  place-shown : bodyQuestions L i s ≡ 0 → bodyAt i s ≡ bodyPlace L i s
+  unfolding bodyPlace
+  place-shown z = sym (rw (eq-eqb (bodyQuestions L i s) 0 z) refl)
 
-    pub body-past : (b : BodyPlace) → r .records ≤ i → b .refusal ≡ 12 → BodyFound L i s b
-    unfolding ask
-    body-past b l e =
-        let k = A .accepted z .records in
-        record { says = e ∙ sym (twelfth ∙ rw (le-ltb i (recordsByte s) (omega arith)) refl); shown = λ w. absurd (let v = sym e ∙ w in omega arith) }
+  module _ (r : Asked) (A : SheetAsked L s r) where
+    pub body-refused : (b : BodyPlace) → (r .refusal ≡ 0 → ⊥) → b ≡ nowhere (r .refusal) → FindPromise L i s b
+    body-refused b ne e =
+        let says = A .says in
+        find-nowhere b (r .refusal) e (says ∙ sym (then-refused (readQuestions L s) _ (λ z. ne (says ∙ z)))) ne
 
-    pub body-shown : (n at e p : ℕ) → i < r .records → Placed s n i at → e ≡ end s at → ByteAt s (at + 3) p
-        → BodyFound L i s (record { refusal = 0; start = at + 4; end = e; positives = p })
-    unfolding ask
-    body-shown n at e p l K q B =
-        let k = A .accepted z .records in
-        let w = K .known .whole in
-        let three = w .three in
-        let fits = w .fits in
-        record {
-          says = sym (twelfth ∙ rw (lt-ltb i (recordsByte s) (omega arith)) refl);
-          shown = λ _. record {
-            start = ap (λ a. a + 4) (K .is);
-            stop = q ∙ ap (end s) (K .is);
-            count = B .is ∙ ap (positives s) (K .is);
+    module _ (z : r .refusal ≡ 0) where
+      twelfth : bodyQuestions L i s ≡ ask (ltb i (recordsByte s)) 12
+      twelfth = then-zero (readQuestions L s) _ (sym (A .says) ∙ z)
+
+      pub body-past : (b : BodyPlace) → r .records ≤ i → b ≡ nowhere 12 → FindPromise L i s b
+      unfolding ask
+      body-past b l e =
+          let k = A .accepted z .number in
+          find-nowhere b 12 e (sym (twelfth ∙ rw (le-ltb i (recordsByte s) (omega arith)) refl)) (λ w. omega arith)
+
+      pub body-shown : (n at e p : ℕ) → i < r .records → Placed s n i at → e ≡ end s at → ByteAt s (at + 3) p
+          → FindPromise L i s (record { refusal = 0; start = at + 4; end = e; positives = p })
+      unfolding ask
+      body-shown n at e p l K last B =
+          let k = A .accepted z .number in
+          let w = K .known .whole in
+          let three = w .three in
+          let fits = w .fits in
+          let passed : bodyQuestions L i s ≡ 0 = twelfth ∙ rw (lt-ltb i (recordsByte s) (omega arith)) refl in
+          let stop : e ≡ bodyEnd i s = last ∙ ap (end s) (K .is) in
+          let count : p ≡ bodyPositives i s = B .is ∙ ap (positives s) (K .is) in
+          record {
+            is = rw (stop, count, K .is) (place-shown passed);
             order = omega arith;
             inside = omega arith;
-          };
-        }
+          }
 
-module _ (L : Limits) (i : ℕ) (s : List ℕ) (b : BodyPlace) (F : BodyFound L i s b) where
-  pub body-none : (values : List ℕ) → (b .refusal ≡ 0 → ⊥) → refused (b .refusal) ≡ outcome (bodyQuestions L i s) values
-  body-none values ne = outcome-refused (bodyQuestions L i s) (b .refusal) values (F .says) ne
+  module _ (b : BodyPlace) (F : FindPromise L i s b) where
+    pub found-says : b .refusal ≡ bodyQuestions L i s
+    unfolding bodyPlace
+    found-says =
+        ap (λ (b : BodyPlace). b .refusal) (F .is)
+        ∙ by-bool (eqb (bodyQuestions L i s) 0) (λ t. rw t (sym (eqb-true (bodyQuestions L i s) 0 t))) (λ f. rw f refl)
 
-  pub body-count : b .refusal ≡ 0 → answered (b .positives ∷ []) ≡ outcome (bodyQuestions L i s) (positives s (place i s) ∷ [])
-  body-count z =
-      ap (λ p. answered (p ∷ [])) (F .shown z .count)
-      ∙ outcome-answered (bodyQuestions L i s) (b .refusal) (positives s (place i s) ∷ []) (F .says) z
+    pub found-place : b .refusal ≡ 0 → b ≡ bodyAt i s
+    found-place z = F .is ∙ sym (place-shown (sym found-says ∙ z))
 
-  pub stretch-none : (values : List ℕ) → (b .refusal ≡ 0 → ⊥) → [] ≡ cond (eqb (bodyQuestions L i s) 0) values []
-  stretch-none values ne = sym (rw (ne-eqb (bodyQuestions L i s) 0 (λ z. ne (F .says ∙ z))) refl)
+    pub body-none : (b .refusal ≡ 0 → ⊥) → BodyPromise L i s (body.Refused (b .refusal))
+    unfolding BodyPromise bodyOutcome
+    body-none ne = outcome-refused (bodyQuestions L i s) (b .refusal) (bodyPositives i s ∷ []) found-says ne
 
-  pub stretch-shown : b .refusal ≡ 0 → part (b .start) (b .end) s ≡ cond (eqb (bodyQuestions L i s) 0) (stretch i s) []
-  unfolding stretch
-  stretch-shown z =
-      let S = F .shown z in
-      ap (λ a. part a (b .end) s) (S .start) ∙ (ap (λ e. part (place i s + 4) e s) (S .stop) ∙ sym (rw (eq-eqb (bodyQuestions L i s) 0 (sym (F .says) ∙ z)) refl))
+    pub body-count : b .refusal ≡ 0 → BodyPromise L i s (body.Positives (b .positives))
+    unfolding BodyPromise bodyOutcome
+    body-count z =
+        ap (λ (b : BodyPlace). answered (b .positives ∷ [])) (found-place z)
+        ∙ outcome-answered (bodyQuestions L i s) (bodyPositives i s ∷ []) (sym found-says ∙ z)
 
-  pub shown-order : b .refusal ≡ 0 → b .start ≤ b .end
-  shown-order z = F .shown z .order
+    pub slice-none : (b .refusal ≡ 0 → ⊥) → SlicePromise L i s []
+    unfolding SlicePromise
+    slice-none ne = sym (rw (ne-eqb (bodyQuestions L i s) 0 (λ z. ne (found-says ∙ z))) refl)
 
-  pub shown-inside : b .refusal ≡ 0 → b .end ≤ length s
-  shown-inside z = F .shown z .inside
+    pub slice-shown : b .refusal ≡ 0 → SlicePromise L i s (part (b .start) (b .end) s)
+    unfolding SlicePromise slice
+    slice-shown z =
+        ap (λ (b : BodyPlace). part (b .start) (b .end) s) (found-place z)
+        ∙ sym (rw (eq-eqb (bodyQuestions L i s) 0 (sym found-says ∙ z)) refl)

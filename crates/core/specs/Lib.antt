@@ -1,6 +1,6 @@
 pub mod Outcome
 pub mod Outputs
-pub mod Operations
-pub mod Bodies
-pub mod Examined
+pub mod Questions
+pub mod Promises
 pub mod Demands
+pub mod inner

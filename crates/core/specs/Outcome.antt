@@ -28,28 +28,32 @@ pub data Outcome : Type 0 where
 
 -- The first no of the questions, or the values.
 unfoldable pub outcome : ℕ → List ℕ → Outcome
-outcome q values = cond (eqb q 0) (answered values) (refused q)
+outcome refusal values = cond (eqb refusal 0) (answered values) (refused refusal)
 
--- What each answer of the code stands for.
-abbrev pub readOf : ReadAnswer → Outcome
-readOf (read.Refused q) = refused q
-readOf (read.Header n m) = answered (n ∷ m ∷ [])
+-- What an answer of reading stands for.
+abbrev pub fromRead : ReadAnswer → Outcome
+fromRead (read.Refused refusal) = refused refusal
+fromRead (read.Header n m) = answered (n ∷ m ∷ [])
 
-abbrev pub bodyOf : BodyAnswer → Outcome
-bodyOf (body.Refused q) = refused q
-bodyOf (body.Positives p) = answered (p ∷ [])
+-- Of showing a body.
+abbrev pub fromBody : BodyAnswer → Outcome
+fromBody (body.Refused refusal) = refused refusal
+fromBody (body.Positives p) = answered (p ∷ [])
 
-abbrev pub writeOf : WriteAnswer → Outcome
-writeOf (write.Refused q) = refused q
-writeOf (write.Length l) = answered (l ∷ [])
+-- Of an operation that writes.
+abbrev pub fromWrite : WriteAnswer → Outcome
+fromWrite (write.Refused refusal) = refused refusal
+fromWrite (write.Length l) = answered (l ∷ [])
 
-abbrev pub testOf : TestAnswer → Outcome
-testOf (test.Refused q) = refused q
-testOf test.Passed = answered []
+-- Of testing a sequence.
+abbrev pub fromTest : TestAnswer → Outcome
+fromTest (test.Refused refusal) = refused refusal
+fromTest test.Passed = answered []
 
-abbrev pub clausesOf : ClausesAnswer → Outcome
-clausesOf (clauses.Refused q) = refused q
-clausesOf (clauses.Written l v c) = answered (l ∷ v ∷ c ∷ [])
+-- Of writing clauses.
+abbrev pub fromClauses : ClausesAnswer → Outcome
+fromClauses (clauses.Refused refusal) = refused refusal
+fromClauses (clauses.Written l v c) = answered (l ∷ v ∷ c ∷ [])
 
 -- A verdict as a number.
 abbrev pub code : Verdict → ℕ
@@ -57,21 +61,23 @@ code none = 0
 code clear = 1
 code split = 2
 
-abbrev pub verdictOf : declared.Verdict → Verdict
-verdictOf verdict.None = none
-verdictOf verdict.Clear = clear
-verdictOf verdict.Split = split
+-- The verdict that the code's stands for.
+abbrev pub fromVerdict : declared.Verdict → Verdict
+fromVerdict verdict.None = none
+fromVerdict verdict.Clear = clear
+fromVerdict verdict.Split = split
 
-abbrev pub countOf : CountAnswer → Outcome
-countOf (counted.Refused q) = refused q
-countOf (counted.Counted c v) = answered (c ∷ code (verdictOf v) ∷ [])
+-- What an answer of counting stands for.
+abbrev pub fromCount : CountAnswer → Outcome
+fromCount (counted.Refused refusal) = refused refusal
+fromCount (counted.Counted c v) = answered (c ∷ code (fromVerdict v) ∷ [])
 
--- An operation that writes: it answers the length written, and what else there is to answer; the buffer holds the output and,
--- behind it, what it held; on a refusal it is as it was.
-pub record Emits {A : Type 0} (q : ℕ) (output : List A) (more : List ℕ) (old new : List A) (r : Outcome) : Type 0 where
-  pub says : r ≡ outcome q (length output ∷ more)
-  pub leaves : new ≡ cond (eqb q 0) (output ++ drop (length output) old) old
+-- A buffer afterwards: the output and, behind it, what it held; on a refusal what it held.
+unfoldable pub filled : {A : Type 0} → Outcome → List A → List A → List A
+filled (refused refusal) output old = old
+filled (answered values) output old = output ++ drop (length output) old
 
--- The same where nothing but the length is answered.
-abbrev pub Writes : {A : Type 0} → ℕ → List A → List A → List A → WriteAnswer → Type 0
-Writes q output old new r = Emits q output [] old new (writeOf r)
+-- An operation that writes: its answer, and the buffer afterwards.
+pub record Emits {A : Type 0} (o : Outcome) (output old new : List A) (r : Outcome) : Type 0 where
+  pub says : r ≡ o
+  pub leaves : new ≡ filled o output old

@@ -4,49 +4,70 @@ use Prim.Native.Nat.{ℕ, zero, suc, _+_, _/_, _%_}
 use lib.IntN.{ℤ}
 use lib.ListN.{length}
 use Rattle.lists.specs.Lists.{range}
+use Rattle.asp.specs.Count.{count, verdict}
 use Rattle.unfolding.specs.Graph.{component}
 use Rattle.unfolding.specs.Default.{defaultSequence}
 use Rattle.unfolding.specs.Unfolded.{words, unfolded}
 use Rattle.unfolding.specs.Clauses.{signedWords}
 use Rattle.unfolding.specs.Faithful.{clausesOf, variablesOf}
-use Rattle.sheet.specs.Format.{atomsByte, end, part}
+use Rattle.sheet.specs.Format.{atomsByte, positives, end, part}
 use Rattle.sheet.specs.Sequence.{entries}
 use Rattle.sheet.specs.Sheet.{program}
+use Rattle.core.specs.Outcome.{code}
 
 -- Components: for each atom the smallest atom of its component.
-unfoldable pub componentBytes : List ℕ → List ℕ
-componentBytes s = map (component (program s)) (range 0 (atomsByte s))
+unfoldable pub componentsOutput : List ℕ → List ℕ
+componentsOutput s = map (component (program s)) (range 0 (atomsByte s))
 
--- A sequence's bytes: version 1, the number of entries in two bytes, big-endian, the entries.
+-- A sequence's header: version 1, the number of entries in two bytes, big-endian.
 abbrev pub sequenceHeader : ℕ → List ℕ
 sequenceHeader t = 1 ∷ t / 256 % 256 ∷ t % 256 ∷ []
 
+-- A sequence's bytes.
 unfoldable pub sequenceBytes : List ℕ → List ℕ
 sequenceBytes l = sequenceHeader (length l) ++ l
 
--- The default sequence's bytes.
-unfoldable pub defaultBytes : List ℕ → List ℕ
-defaultBytes s = sequenceBytes (defaultSequence (program s))
+-- The default sequence.
+unfoldable pub defaultOutput : List ℕ → List ℕ
+defaultOutput s = sequenceBytes (defaultSequence (program s))
 
--- Where record i stands behind `at`.
+-- The unfolded program of a sheet and a sequence.
+unfoldable pub unfoldedOutput : List ℕ → List ℕ → List ℕ
+unfoldedOutput s q = words (unfolded (program s) (entries q))
+
+-- Its clauses.
+unfoldable pub clausesOutput : List ℕ → List ℕ → List ℤ
+clausesOutput s q = signedWords (clausesOf (program s) (entries q))
+
+-- The numbers of variables and of clauses.
+unfoldable pub clauseNumbers : List ℕ → List ℕ → List ℕ
+clauseNumbers s q = variablesOf (program s) (entries q) ∷ length (clausesOf (program s) (entries q)) ∷ []
+
+-- Where the record stands that is i records behind `at`.
 unfoldable pub offset : ℕ → List ℕ → ℕ → ℕ
 offset zero s at = at
 offset (suc i) s at = offset i s (end s at)
 
--- The body of record i: the stretch of the sheet from its first positive to its last negative atom.
+-- Where record i stands.
 unfoldable pub place : ℕ → List ℕ → ℕ
 place i s = offset i s 5
 
-unfoldable pub stretch : ℕ → List ℕ → List ℕ
-stretch i s = part (place i s + 4) (end s (place i s)) s
+-- Where its body starts: at its first positive atom.
+abbrev pub bodyStart : ℕ → List ℕ → ℕ
+bodyStart i s = place i s + 4
 
--- The unfolded program of a sheet and a sequence.
-unfoldable pub unfoldedWords : List ℕ → List ℕ → List ℕ
-unfoldedWords s q = words (unfolded (program s) (entries q))
+-- Where its body ends: behind its last negative atom.
+abbrev pub bodyEnd : ℕ → List ℕ → ℕ
+bodyEnd i s = end s (place i s)
 
--- Its clauses, and the numbers of variables and of clauses.
-unfoldable pub clauseWords : List ℕ → List ℕ → List ℤ
-clauseWords s q = signedWords (clausesOf (program s) (entries q))
+-- Its number of positive atoms.
+abbrev pub bodyPositives : ℕ → List ℕ → ℕ
+bodyPositives i s = positives s (place i s)
 
-unfoldable pub clauseNumbers : List ℕ → List ℕ → List ℕ
-clauseNumbers s q = variablesOf (program s) (entries q) ∷ length (clausesOf (program s) (entries q)) ∷ []
+-- Its body: a slice of the sheet.
+unfoldable pub slice : ℕ → List ℕ → List ℕ
+slice i s = part (bodyStart i s) (bodyEnd i s) s
+
+-- The number of stable models, and the verdict as a number.
+abbrev pub countValues : List ℕ → List ℕ
+countValues s = count (program s) ∷ code (verdict (count (program s))) ∷ []

@@ -1,38 +1,36 @@
 // The operations, with their limits as parameters.
 use bits::byte_at;
 use chains::passes;
-use completion::numbers_of;
-use completion::put_clauses;
-use components::Analysis;
-use components::analyse;
-use components::component_sizes;
-use components::refused;
-use outputs::blocks_length;
-use outputs::put_blocks;
-use outputs::put_names;
+use clause_output::numbers_of;
+use clause_output::put_clauses;
+use components::Components;
+use components::components_of;
+use components::fits;
+use program::ProgramTable;
+use reader::read_sheet;
 use sheet::Limits;
 use sheet::next_record;
 use sheet::record_end;
 use sheet::sequence_fits;
-use unfold::put_unfolded;
-use unfold::unfolded_length;
+use sheet_output::blocks_length;
+use sheet_output::put_blocks;
+use sheet_output::put_names;
+use translation::program_of;
+use unfolded_output::put_unfolded;
+use unfolded_output::unfolded_length;
 use writer::put;
 ghost use mathlib.Core.Path.{_≡_};
-ghost use mathlib.Core.List.{_∷_, []};
-ghost use mathlib.Core.Bool.{cond};
-ghost use Prim.Native.Nat.{_+_, _≤_, _<_};
-ghost use lib.Dec.{eqb};
-ghost use lib.ListN.{length};
-ghost use Rattle.sheet.specs.Format.{atomsByte, recordsByte, positives};
-ghost use Rattle.asp.specs.Count.{count, verdict};
-ghost use Rattle.sheet.specs.Sheet.{Walk, program};
-ghost use Rattle.core.specs.Outcome.{readOf, bodyOf, testOf, clausesOf, verdictOf, countOf, outcome, Writes};
-ghost use Rattle.core.specs.Outputs.{componentBytes, defaultBytes, sequenceHeader, place, stretch, unfoldedWords};
-ghost use Rattle.writer.specs.Wrote.{Wrote};
-ghost use Rattle.core.specs.Bodies.{Placed, BodyFound};
-ghost use Rattle.core.specs.Operations.{readQuestions, bodyQuestions, componentsQuestions, defaultQuestions, testQuestions, unfoldedQuestions, countQuestions, countValues};
-ghost use Rattle.core.specs.Examined.{Examined};
-ghost use Rattle.core.specs.Demands.{ClausesPromise};
+ghost use Prim.Native.Nat.{_≤_, _<_};
+ghost use Rattle.asp.specs.Count.{verdict};
+ghost use Rattle.sheet.specs.inner.Walk.{Walk};
+ghost use Rattle.chains.specs.inner.Subsets.{Small};
+ghost use Rattle.writer.specs.inner.Wrote.{Wrote};
+ghost use Rattle.core.specs.Outcome.{fromVerdict};
+ghost use Rattle.core.specs.Outputs.{sequenceHeader};
+ghost use Rattle.core.specs.Promises.{ReadPromise, BodyPromise, SlicePromise, nowhere, FindPromise};
+ghost use Rattle.core.specs.Promises.{ComponentsPromise, DefaultPromise, TestPromise, UnfoldedPromise, ClausesPromise, CountPromise};
+ghost use Rattle.core.specs.inner.Places.{Placed};
+ghost use Rattle.core.specs.inner.Asked.{Supported, SheetAsked, SequenceAsked, BothAsked};
 
 // Reading: the refusal, or the numbers of atoms and records.
 pub enum ReadAnswer {
@@ -64,32 +62,120 @@ pub enum ClausesAnswer {
     Written(usize, usize, usize),
 }
 
-// Whether there is no settled state, one, or more.
+// Whether there is no stable model, one, or more.
 pub enum Verdict {
     None,
     Clear,
     Split,
 }
 
-// Counting: the refusal, or the number of settled states with the verdict.
+// Counting: the refusal, or the number of stable models with the verdict.
 pub enum CountAnswer {
     Refused(u32),
     Counted(u64, Verdict),
 }
 
+// What the questions about a sheet say: the refusal, or 0 with its number of records, its program and its components.
+pub struct Asked {
+    pub refusal: u32,
+    pub records: usize,
+    pub program: ProgramTable,
+    pub components: Components,
+}
+
+fn refused(refusal: u32) -> Asked
+    ensures { λ r. ⌜ r .refusal ≡ refusal ⌝ }
+{
+    let program = ProgramTable {
+        atoms: 0,
+        rules: 0,
+        constraints: 0,
+        heads: [0; 128],
+        pos: [0; 128],
+        neg: [0; 128],
+    };
+    let components = Components {
+        edges: [0; 64],
+        ancestors: [0; 64],
+        names: [0; 64],
+        sets: [0; 64],
+    };
+    Asked {
+        refusal,
+        records: 0,
+        program,
+        components,
+    }
+}
+
+// The questions about a sheet: 1 to 6 as it is read, then 7.
+fn ask_sheet(limits: Limits, s: &[u8]) -> Asked
+    requires { ⌜ Supported limits ⌝ }
+    ensures { λ r. ⌜ SheetAsked limits (now (s .entry)) r ⌝ }
+{
+    let table = read_sheet(limits, s);
+    let refusal = table.refusal;
+    if refusal != 0 {
+        return refused(refusal);
+    }
+    let program = program_of(table);
+    let components = components_of(program);
+    let sets = components.sets;
+    if !fits(&sets, program.atoms, limits.component) {
+        return refused(7);
+    }
+    Asked {
+        refusal: 0,
+        records: table.count,
+        program,
+        components,
+    }
+}
+
+// The questions about a sequence, of a program of n atoms with its edges and the sets of its components: 8, then 9.
+fn ask_sequence(limits: Limits, n: usize, edges: &[u64; 64], sets: &[u64; 64], q: &[u8]) -> u32
+    requires { ⌜ (n ≤ 64) × Small n (now sets) ⌝ }
+    ensures { λ r. ⌜ SequenceAsked limits n (now (edges .entry)) (now (sets .entry)) (now (q .entry)) r ⌝ }
+{
+    if !sequence_fits(limits, n, q) {
+        return 8;
+    }
+    if !passes(n, edges, sets, q) {
+        return 9;
+    }
+    0
+}
+
+// The questions about a sheet, then those about a sequence.
+fn ask_both(limits: Limits, s: &[u8], q: &[u8]) -> Asked
+    requires { ⌜ Supported limits ⌝ }
+    ensures { λ r. ⌜ BothAsked limits (now (s .entry)) (now (q .entry)) r ⌝ }
+{
+    let a = ask_sheet(limits, s);
+    if a.refusal != 0 {
+        return a;
+    }
+    let components = a.components;
+    let edges = components.edges;
+    let sets = components.sets;
+    let refusal = ask_sequence(limits, a.program.atoms, &edges, &sets, q);
+    if refusal != 0 {
+        return refused(refusal);
+    }
+    a
+}
+
 // Reading a sheet.
 pub fn read(limits: Limits, s: &[u8]) -> ReadAnswer
-    requires { ⌜ limits .atoms ≤ 64 ⌝ }
-    ensures { λ r. ⌜ readOf r ≡ outcome (readQuestions limits (now (s .entry))) (atomsByte (now (s .entry)) ∷ recordsByte (now (s .entry)) ∷ []) ⌝ }
+    requires { ⌜ Supported limits ⌝ }
+    ensures { λ r. ⌜ ReadPromise limits (now (s .entry)) r ⌝ }
 {
-    let a = analyse(limits, s);
-    let q = a.refusal;
-    if q != 0 {
-        return ReadAnswer::Refused(q);
+    let a = ask_sheet(limits, s);
+    let refusal = a.refusal;
+    if refusal != 0 {
+        return ReadAnswer::Refused(refusal);
     }
-    let n = a.atoms;
-    let m = a.records;
-    ReadAnswer::Header(n, m)
+    ReadAnswer::Header(a.program.atoms, a.records)
 }
 
 // Where a record stands, of m records that have passed.
@@ -116,11 +202,11 @@ pub struct BodyPlace {
     pub positives: usize,
 }
 
-fn no_body(q: u32) -> BodyPlace
-    ensures { λ r. ⌜ r .refusal ≡ q ⌝ }
+fn no_body(refusal: u32) -> BodyPlace
+    ensures { λ r. ⌜ r ≡ nowhere refusal ⌝ }
 {
     BodyPlace {
-        refusal: q,
+        refusal,
         start: 0,
         end: 0,
         positives: 0,
@@ -128,20 +214,19 @@ fn no_body(q: u32) -> BodyPlace
 }
 
 pub fn find_body(limits: Limits, s: &[u8], number: usize) -> BodyPlace
-    requires { ⌜ limits .atoms ≤ 64 ⌝ }
-    ensures { λ r. ⌜ BodyFound limits number (now (s .entry)) r ⌝ }
+    requires { ⌜ Supported limits ⌝ }
+    ensures { λ r. ⌜ FindPromise limits number (now (s .entry)) r ⌝ }
 {
-    let a = analyse(limits, s);
-    let q = a.refusal;
-    if q != 0 {
-        return no_body(q);
+    let a = ask_sheet(limits, s);
+    let refusal = a.refusal;
+    if refusal != 0 {
+        return no_body(refusal);
     }
-    let n = a.atoms;
     let m = a.records;
     if m <= number {
         return no_body(12);
     }
-    let at = record_place(s, n, m, number);
+    let at = record_place(s, a.program.atoms, m, number);
     let end = record_end(s, at);
     let positives = byte_at(s, at + 3);
     let start = at + 4;
@@ -155,26 +240,26 @@ pub fn find_body(limits: Limits, s: &[u8], number: usize) -> BodyPlace
 
 // Showing a body: the refusal, or p.
 pub fn body(limits: Limits, s: &[u8], number: usize) -> BodyAnswer
-    requires { ⌜ limits .atoms ≤ 64 ⌝ }
-    ensures { λ r. ⌜ bodyOf r ≡ outcome (bodyQuestions limits number (now (s .entry))) (positives (now (s .entry)) (place number (now (s .entry))) ∷ []) ⌝ }
+    requires { ⌜ Supported limits ⌝ }
+    ensures { λ r. ⌜ BodyPromise limits number (now (s .entry)) r ⌝ }
 {
     let b = find_body(limits, s, number);
-    let q = b.refusal;
-    if q != 0 {
-        return BodyAnswer::Refused(q);
+    let refusal = b.refusal;
+    if refusal != 0 {
+        return BodyAnswer::Refused(refusal);
     }
     let p = b.positives;
     BodyAnswer::Positives(p)
 }
 
-// Showing a body: its stretch of the sheet, empty on a refusal.
-pub fn body_stretch(limits: Limits, s: &[u8], number: usize) -> &[u8]
-    requires { ⌜ limits .atoms ≤ 64 ⌝ }
-    ensures { λ r. ⌜ now r ≡ cond (eqb (bodyQuestions limits number (now (s .entry))) 0) (stretch number (now (s .entry))) [] ⌝ }
+// Showing a body: its slice of the sheet, empty on a refusal.
+pub fn body_slice(limits: Limits, s: &[u8], number: usize) -> &[u8]
+    requires { ⌜ Supported limits ⌝ }
+    ensures { λ r. ⌜ SlicePromise limits number (now (s .entry)) (now r) ⌝ }
 {
     let b = find_body(limits, s, number);
-    let q = b.refusal;
-    if q != 0 {
+    let refusal = b.refusal;
+    if refusal != 0 {
         return &s[0..0];
     }
     let start = b.start;
@@ -184,19 +269,20 @@ pub fn body_stretch(limits: Limits, s: &[u8], number: usize) -> &[u8]
 
 // Finding components: for each atom one byte, the smallest atom of its component.
 pub fn components(limits: Limits, s: &[u8], out: &mut [u8]) -> WriteAnswer
-    requires { ⌜ limits .atoms ≤ 64 ⌝ }
-    ensures { λ r. ⌜ Writes (componentsQuestions limits (length (now (out .entry))) (now (s .entry))) (componentBytes (now (s .entry))) (now (out .entry)) (now (out .exit)) r ⌝ }
+    requires { ⌜ Supported limits ⌝ }
+    ensures { λ r. ⌜ ComponentsPromise limits (now (s .entry)) (now (out .entry)) (now (out .exit)) r ⌝ }
 {
-    let a = analyse(limits, s);
-    let q = a.refusal;
-    if q != 0 {
-        return WriteAnswer::Refused(q);
+    let a = ask_sheet(limits, s);
+    let refusal = a.refusal;
+    if refusal != 0 {
+        return WriteAnswer::Refused(refusal);
     }
-    let n = a.atoms;
+    let n = a.program.atoms;
     if out.len() < n {
         return WriteAnswer::Refused(10);
     }
-    let names = a.names;
+    let components = a.components;
+    let names = components.names;
     let length = put_names(out, 0, &names, n);
     WriteAnswer::Length(length)
 }
@@ -212,54 +298,32 @@ fn put_header(out: &mut [u8], t: usize) -> usize
 
 // The default sequence, header included.
 pub fn default_sequence(limits: Limits, s: &[u8], out: &mut [u8]) -> WriteAnswer
-    requires { ⌜ (limits .atoms ≤ 64) × (limits .component ≤ 64) ⌝ }
-    ensures { λ r. ⌜ Writes (defaultQuestions limits (length (now (out .entry))) (now (s .entry))) (defaultBytes (now (s .entry))) (now (out .entry)) (now (out .exit)) r ⌝ }
+    requires { ⌜ Supported limits ⌝ }
+    ensures { λ r. ⌜ DefaultPromise limits (now (s .entry)) (now (out .entry)) (now (out .exit)) r ⌝ }
 {
-    let a = analyse(limits, s);
-    let q = a.refusal;
-    if q != 0 {
-        return WriteAnswer::Refused(q);
+    let a = ask_sheet(limits, s);
+    let refusal = a.refusal;
+    if refusal != 0 {
+        return WriteAnswer::Refused(refusal);
     }
-    let n = a.atoms;
-    let names = a.names;
-    let sizes = component_sizes(&names, n);
-    let of = sizes.of;
-    let t = blocks_length(&of, n);
+    let n = a.program.atoms;
+    let components = a.components;
+    let sets = components.sets;
+    let t = blocks_length(&sets, n);
     if out.len() < t + 3 {
         return WriteAnswer::Refused(10);
     }
     let at = put_header(out, t);
-    let length = put_blocks(out, at, &names, &of, n);
+    let length = put_blocks(out, at, &sets, n);
     WriteAnswer::Length(length)
-}
-
-// Questions 1 to 9 of a sheet and a sequence.
-fn examine(limits: Limits, s: &[u8], q: &[u8]) -> Analysis
-    requires { ⌜ (limits .atoms ≤ 64) × (limits .component ≤ 10) ⌝ }
-    ensures { λ r. ⌜ Examined limits (now (s .entry)) (now (q .entry)) r ⌝ }
-{
-    let a = analyse(limits, s);
-    if a.refusal != 0 {
-        return a;
-    }
-    let n = a.atoms;
-    let m = a.records;
-    if !sequence_fits(limits, n, q) {
-        return refused(8);
-    }
-    let names = a.names;
-    if !passes(s, n, m, &names, q) {
-        return refused(9);
-    }
-    a
 }
 
 // Testing a sequence: every chain must be found in it.
 pub fn test(limits: Limits, s: &[u8], q: &[u8]) -> TestAnswer
-    requires { ⌜ (limits .atoms ≤ 64) × (limits .component ≤ 10) ⌝ }
-    ensures { λ r. ⌜ testOf r ≡ outcome (testQuestions limits (now (s .entry)) (now (q .entry))) [] ⌝ }
+    requires { ⌜ Supported limits ⌝ }
+    ensures { λ r. ⌜ TestPromise limits (now (s .entry)) (now (q .entry)) r ⌝ }
 {
-    let a = examine(limits, s, q);
+    let a = ask_both(limits, s, q);
     let refusal = a.refusal;
     if refusal != 0 {
         return TestAnswer::Refused(refusal);
@@ -269,47 +333,49 @@ pub fn test(limits: Limits, s: &[u8], q: &[u8]) -> TestAnswer
 
 // Writing the unfolded program.
 pub fn unfolded(limits: Limits, s: &[u8], q: &[u8], out: &mut [u32]) -> WriteAnswer
-    requires { ⌜ (limits .atoms ≤ 64) × (limits .records ≤ 128) × (limits .component ≤ 10) × (limits .entries ≤ 640) ⌝ }
-    ensures { λ r. ⌜ Writes (unfoldedQuestions limits (length (now (out .entry))) (now (s .entry)) (now (q .entry))) (unfoldedWords (now (s .entry)) (now (q .entry))) (now (out .entry)) (now (out .exit)) r ⌝ }
+    requires { ⌜ Supported limits ⌝ }
+    ensures { λ r. ⌜ UnfoldedPromise limits (now (s .entry)) (now (q .entry)) (now (out .entry)) (now (out .exit)) r ⌝ }
 {
-    let a = examine(limits, s, q);
+    let a = ask_both(limits, s, q);
     let refusal = a.refusal;
     if refusal != 0 {
         return WriteAnswer::Refused(refusal);
     }
-    let n = a.atoms;
-    let m = a.records;
-    let names = a.names;
-    if out.len() < unfolded_length(s, q, n, m, &names) {
+    let program = a.program;
+    let components = a.components;
+    let names = components.names;
+    let sets = components.sets;
+    if out.len() < unfolded_length(program, q, &names, &sets) {
         return WriteAnswer::Refused(10);
     }
-    let length = put_unfolded(out, s, q, n, m, &names);
+    let length = put_unfolded(out, program, q, &names, &sets);
     WriteAnswer::Length(length)
 }
 
 // Writing clauses.
 pub fn clauses(limits: Limits, s: &[u8], q: &[u8], out: &mut [i32]) -> ClausesAnswer
-    requires { ⌜ (limits .atoms ≤ 64) × (limits .records ≤ 128) × (limits .component ≤ 10) × (limits .entries ≤ 640) ⌝ }
-    ensures { λ r. ⌜ ClausesPromise limits (now (s .entry)) (now (q .entry)) (now (out .entry)) (now (out .exit)) (clausesOf r) ⌝ }
+    requires { ⌜ Supported limits ⌝ }
+    ensures { λ r. ⌜ ClausesPromise limits (now (s .entry)) (now (q .entry)) (now (out .entry)) (now (out .exit)) r ⌝ }
 {
-    let a = examine(limits, s, q);
+    let a = ask_both(limits, s, q);
     let refusal = a.refusal;
     if refusal != 0 {
         return ClausesAnswer::Refused(refusal);
     }
-    let n = a.atoms;
-    let m = a.records;
-    let names = a.names;
-    let numbers = numbers_of(s, q, n, m, &names);
+    let program = a.program;
+    let components = a.components;
+    let names = components.names;
+    let sets = components.sets;
+    let numbers = numbers_of(program, q, &names, &sets);
     if out.len() < numbers.words {
         return ClausesAnswer::Refused(10);
     }
-    let length = put_clauses(out, s, q, n, m, &names);
+    let length = put_clauses(out, program, q, &names, &sets);
     ClausesAnswer::Written(length, numbers.variables, numbers.clauses)
 }
 
 fn verdict_on(states: u64) -> Verdict
-    ensures { λ r. ⌜ verdictOf r ≡ verdict states ⌝ }
+    ensures { λ r. ⌜ fromVerdict r ≡ verdict states ⌝ }
 {
     if states == 0 {
         return Verdict::None;
@@ -320,19 +386,19 @@ fn verdict_on(states: u64) -> Verdict
     Verdict::Split
 }
 
-// Counting the settled states.
+// Counting the stable models.
 pub fn count(limits: Limits, s: &[u8]) -> CountAnswer
-    requires { ⌜ (limits .atoms ≤ 64) × (limits .records ≤ 128) ⌝ }
-    ensures { λ r. ⌜ countOf r ≡ outcome (countQuestions limits (now (s .entry))) (countValues (now (s .entry))) ⌝ }
+    requires { ⌜ Supported limits ⌝ }
+    ensures { λ r. ⌜ CountPromise limits (now (s .entry)) r ⌝ }
 {
-    let a = analyse(limits, s);
-    let q = a.refusal;
-    if q != 0 {
-        return CountAnswer::Refused(q);
+    let a = ask_sheet(limits, s);
+    let refusal = a.refusal;
+    if refusal != 0 {
+        return CountAnswer::Refused(refusal);
     }
-    let n = a.atoms;
-    let m = a.records;
-    let found = masks::count(s, n, m);
+    let components = a.components;
+    let ancestors = components.ancestors;
+    let found = counting::count(a.program, &ancestors);
     let states = found.states;
     if found.crowded {
         return CountAnswer::Refused(11);

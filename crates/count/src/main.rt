@@ -1,4 +1,4 @@
-// A sheet on standard input, one line out: the number of settled states and the verdict, or the refusal.
+// A sheet on standard input, one line out: the number of stable models and the verdict, or the refusal.
 use core::CountAnswer;
 use core::Verdict;
 use io::print_decimal;
@@ -17,9 +17,9 @@ fn print_counted(states: u64, v: Verdict) -> bool {
     print_verdict(v)
 }
 
-fn print_refused(q: u32) -> bool {
+fn print_refused(refusal: u32) -> bool {
     write_all(1, b"refused ");
-    print_decimal(1, q as u64);
+    print_decimal(1, refusal as u64);
     write_all(1, b"\n")
 }
 
@@ -28,8 +28,8 @@ fn main() {
     let n = io::read_full(0, &mut input);
     let answer = office::count(&input[..n]);
     match answer {
-        CountAnswer::Refused(q) => {
-            print_refused(q);
+        CountAnswer::Refused(refusal) => {
+            print_refused(refusal);
         }
         CountAnswer::Counted(states, v) => {
             print_counted(states, v);

@@ -1,7 +1,4 @@
-pub mod Rules
-pub mod Passes
-pub mod Constraints
-pub mod Tasks
-pub mod Narrowing
-pub mod Search
-pub mod Seeking
+pub mod Ordering
+pub mod Returning
+pub mod Negating
+pub mod Deciding

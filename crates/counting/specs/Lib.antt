@@ -1,2 +1,2 @@
-pub mod Rules
-pub mod Search
+pub mod Negated
+pub mod inner

@@ -1,426 +1,243 @@
-// Counting settled states: least models by passes over masks, and the search over decisions.
+// The stable models of a program, counted over its table.
 use bits::difference;
-use bits::has;
-use bits::intersection;
+use bits::lowest;
+use bits::rest;
 use bits::size;
-use bits::subset;
 use bits::union;
 use bits::wide;
-use bits::with;
+use program::ProgramTable;
+use search::Decisions;
+use search::Sizes;
+use search::branch;
 ghost use mathlib.Core.Path.{_≡_};
-ghost use Prim.Native.Nat.{_≤_, _<_};
-ghost use lib.ListN.{getD};
-ghost use Rattle.counting.specs.Rules.{Applies, Fired, FiredAt, Onward, Returning, LeastBy, BodyHolds, Lawful};
-ghost use Rattle.bits.specs.Listed.{Low};
-ghost use Rattle.counting.specs.Search.{Leaf, Member, undecided, Last, Narrowed, Round, Counted};
+ghost use Prim.Native.Nat.{_+_, _≤_, _<_};
+ghost use lib.ListN.{length};
+ghost use Rattle.asp.specs.Count.{count};
+ghost use Rattle.bits.specs.inner.Listed.{Low};
+ghost use Rattle.bits.specs.inner.Visited.{listed};
+ghost use Rattle.program.specs.inner.Held.{programIn, Readable};
+ghost use Rattle.search.specs.inner.Rules.{Returning};
+ghost use Rattle.counting.specs.inner.Prepared.{entriesOf, Full, Reordered, Entered, Firsts, Sooner, Union};
+ghost use Rattle.counting.specs.inner.TableCounted.{TableCounted};
 
-// Does a rule with these negative atoms and this gate apply: surely, or possibly?
-fn applies(sure: bool, i: u64, o: u64, neg: u64, gate: u64) -> bool
-    ensures { λ r. ⌜ Applies sure i o neg gate r ⌝ }
+// The atoms that are negative in some of the first k rules.
+fn negated(neg: &[u64; 128], k: usize) -> u64
+    requires { ⌜ k ≤ 128 ⌝ }
+    ensures { λ r. ⌜ Union (now (neg .entry)) k r ⌝ }
 {
-    if sure {
-        if subset(neg, o) {
-            return subset(gate, i);
-        }
-        return false;
-    }
-    if intersection(neg, i) == 0 {
-        return intersection(gate, o) == 0;
-    }
-    false
-}
-
-// The set with the head, where the rule applies and its positive atoms are in.
-fn fire(l: u64, head: usize, pos: u64, b: bool) -> u64
-    requires { ⌜ head < 64 ⌝ }
-    ensures { λ r. ⌜ Fired l head pos b r ⌝ }
-{
-    if b {
-        if subset(pos, l) {
-            return with(l, head);
-        }
-        return l;
-    }
-    l
-}
-
-// The same for the rule at index j.
-fn fire_at(
-    heads: &[u8; 128],
-    pos: &[u64; 128],
-    neg: &[u64; 128],
-    gate: &[u64; 128],
-    j: usize,
-    sure: bool,
-    i: u64,
-    o: u64,
-    l: u64,
-) -> u64
-    requires { ⌜ (j < 128) × (getD (now heads) j 0 < 64) ⌝ }
-    ensures { λ r. ⌜ FiredAt (now (heads .entry)) (now (pos .entry)) (now (neg .entry)) (now (gate .entry)) j sure i o l r ⌝ }
-{
-    let b = applies(sure, i, o, neg[j], gate[j]);
-    fire(l, wide(heads[j]), pos[j], b)
-}
-
-// The index to go on at: behind j, or the one given where the set has grown.
-fn onward(x: u64, y: u64, back: u8, j: usize) -> usize
-    requires { ⌜ j < 128 ⌝ }
-    ensures { λ r. ⌜ Onward x y back j r ⌝ }
-{
-    if x != y {
-        return wide(back);
-    }
-    j + 1
-}
-
-// From a set inside the least model, the least model, by a pass over the rules: where the rule at j adds its head, it goes on at
-// back[j].
-fn least(
-    heads: &[u8; 128],
-    pos: &[u64; 128],
-    neg: &[u64; 128],
-    gate: &[u64; 128],
-    back: &[u8; 128],
-    k: usize,
-    sure: bool,
-    i: u64,
-    o: u64,
-    start: u64,
-) -> u64
-    requires { ⌜ (k ≤ 128) × Low (now heads) k × Returning (now heads) (now pos) (now back) k ⌝ }
-    ensures { λ r. ⌜ LeastBy (now (heads .entry)) (now (pos .entry)) (now (neg .entry)) (now (gate .entry)) k sure i o start r ⌝ }
-{
-    let mut x = start;
+    let mut x: u64 = 0;
     let mut j = 0;
     while j < k {
-        let y = fire_at(heads, pos, neg, gate, j, sure, i, o, x);
-        j = onward(x, y, back[j], j);
-        x = y;
+        x = union(x, neg[j]);
+        j += 1;
     }
     x
 }
 
-// Does a constraint's body hold in the set?
-fn body_holds(x: u64, pos: u64, neg: u64) -> bool
-    ensures { λ r. ⌜ BodyHolds x pos neg r ⌝ }
+// Exchanges the rules at an index and at one behind it.
+fn exchange(heads: &mut [u8; 128], pos: &mut [u64; 128], neg: &mut [u64; 128], a: usize, b: usize)
+    requires { ⌜ Full (entriesOf (now heads) (now pos) (now neg)) × (a ≤ b) × (b < 128) ⌝ }
+    ensures { λ r. ⌜ Reordered (b + 1) (entriesOf (now (heads .entry)) (now (pos .entry)) (now (neg .entry)))
+        (entriesOf (now (heads .exit)) (now (pos .exit)) (now (neg .exit))) ⌝ }
 {
-    if subset(pos, x) {
-        return intersection(neg, x) == 0;
-    }
-    false
+    let h = heads[a];
+    let p = pos[a];
+    let q = neg[a];
+    heads[a] = heads[b];
+    pos[a] = pos[b];
+    neg[a] = neg[b];
+    heads[b] = h;
+    pos[b] = p;
+    neg[b] = q;
 }
 
-// Does the set break none of the first k constraints?
-fn lawful(pos: &[u64; 128], neg: &[u64; 128], k: usize, x: u64) -> bool
-    requires { ⌜ k ≤ 128 ⌝ }
-    ensures { λ r. ⌜ Lawful (now (pos .entry)) (now (neg .entry)) k x r ⌝ }
+// Has the head at j a smaller row than the head at i?
+fn smaller(heads: &[u8; 128], rows: &[u64; 64], j: usize, i: usize) -> bool
+    requires { ⌜ (j < 128) × (i < 128) ⌝ }
 {
-    let mut j = 0;
-    while j < k {
-        if body_holds(x, pos[j], neg[j]) {
-            return false;
+    let a = wide(heads[j]) % 64;
+    let b = wide(heads[i]) % 64;
+    rows[a] < rows[b]
+}
+
+// Moves the rule at an index down by steps of a gap, as long as the rule there has a head with a greater row.
+fn sink(
+    heads: &mut [u8; 128],
+    pos: &mut [u64; 128],
+    neg: &mut [u64; 128],
+    rows: &[u64; 64],
+    gap: usize,
+    from: usize,
+)
+    requires { ⌜ Full (entriesOf (now heads) (now pos) (now neg)) × (0 < gap) × (from < 128) ⌝ }
+    ensures { λ r. ⌜ Reordered (from + 1) (entriesOf (now (heads .entry)) (now (pos .entry)) (now (neg .entry)))
+        (entriesOf (now (heads .exit)) (now (pos .exit)) (now (neg .exit))) ⌝ }
+{
+    let mut j = from;
+    while gap <= j {
+        let i = j - gap;
+        if !smaller(heads, rows, j, i) {
+            return;
         }
+        exchange(heads, pos, neg, i, j);
+        j = i;
+    }
+}
+
+// The first k rules in an order that rises along each step of a gap.
+fn rise_by(
+    heads: &mut [u8; 128],
+    pos: &mut [u64; 128],
+    neg: &mut [u64; 128],
+    rows: &[u64; 64],
+    gap: usize,
+    k: usize,
+)
+    requires { ⌜ Full (entriesOf (now heads) (now pos) (now neg)) × (0 < gap) × (k ≤ 128) ⌝ }
+    ensures { λ r. ⌜ Reordered k (entriesOf (now (heads .entry)) (now (pos .entry)) (now (neg .entry)))
+        (entriesOf (now (heads .exit)) (now (pos .exit)) (now (neg .exit))) ⌝ }
+{
+    let mut j = gap;
+    while j < k {
+        sink(heads, pos, neg, rows, gap, j);
         j += 1;
     }
-    true
 }
 
-// 1 where the set has i and breaks none of the m constraints, otherwise 0.
-fn leaf(cpos: &[u64; 128], cneg: &[u64; 128], m: usize, i: u64, l: u64) -> u64
-    requires { ⌜ m ≤ 128 ⌝ }
-    ensures { λ r. ⌜ Leaf (now (cpos .entry)) (now (cneg .entry)) m i l r ⌝ }
-{
-    if !subset(i, l) {
-        return 0;
-    }
-    if lawful(cpos, cneg, m, l) {
-        return 1;
-    }
-    0
-}
-
-// With every atom decided the least model is the only candidate: 1 where it is settled, otherwise 0.
-fn last(
-    heads: &[u8; 128],
-    pos: &[u64; 128],
-    neg: &[u64; 128],
-    gate: &[u64; 128],
-    back: &[u8; 128],
+// The first k rules by their heads' rows. With sets of ancestors for rows a rule stands behind those that derive its positive
+// atoms, a set being a smaller number than any that holds it, and the rules of a component stand together.
+fn in_order(
+    heads: &mut [u8; 128],
+    pos: &mut [u64; 128],
+    neg: &mut [u64; 128],
+    rows: &[u64; 64],
     k: usize,
-    cpos: &[u64; 128],
-    cneg: &[u64; 128],
-    m: usize,
-    i: u64,
-    o: u64,
-) -> u64
-    requires { ⌜ (k ≤ 128) × Low (now heads) k × Returning (now heads) (now pos) (now back) k × (m ≤ 128) ⌝ }
-    ensures { λ r. ⌜ Last (now (heads .entry)) (now (pos .entry)) (now (neg .entry)) (now (gate .entry)) k (now (cpos .entry)) (now (cneg .entry)) m i o r ⌝ }
+)
+    requires { ⌜ Full (entriesOf (now heads) (now pos) (now neg)) × (k ≤ 128) ⌝ }
+    ensures { λ r. ⌜ Reordered k (entriesOf (now (heads .entry)) (now (pos .entry)) (now (neg .entry)))
+        (entriesOf (now (heads .exit)) (now (pos .exit)) (now (neg .exit))) ⌝ }
 {
-    let l = least(heads, pos, neg, gate, back, k, true, i, o, 0);
-    if intersection(l, o) != 0 {
-        return 0;
-    }
-    leaf(cpos, cneg, m, i, l)
+    rise_by(heads, pos, neg, rows, 57, k);
+    rise_by(heads, pos, neg, rows, 23, k);
+    rise_by(heads, pos, neg, rows, 10, k);
+    rise_by(heads, pos, neg, rows, 4, k);
+    rise_by(heads, pos, neg, rows, 1, k);
 }
 
-// Decisions with what follows from them: atoms that are in, atoms that are out, and whether no settled state agrees.
-pub struct Bounds {
-    pub i: u64,
-    pub o: u64,
-    pub clash: bool,
-}
-
-// One round. A settled state that agrees has what follows from i by the rules that surely apply, and lies in the least model of
-// those that possibly do. So atoms of x in the first are in, and those not in the second are out. The second is asked for where
-// i has grown.
-fn narrow(
-    heads: &[u8; 128],
-    pos: &[u64; 128],
-    neg: &[u64; 128],
-    gate: &[u64; 128],
-    back: &[u8; 128],
-    k: usize,
-    x: u64,
-    i: u64,
-    o: u64,
-    grown: bool,
-) -> Bounds
-    requires { ⌜ (k ≤ 128) × Low (now heads) k × Returning (now heads) (now pos) (now back) k ⌝ }
-    ensures { λ r. ⌜ Round (now (heads .entry)) (now (pos .entry)) (now (neg .entry)) (now (gate .entry)) k x i o r ⌝ }
+// Enters j for each atom of a set.
+fn enter(at: &mut [u8; 64], set: u64, j: usize)
+    requires { ⌜ (length (now at) ≡ 64) × (j < 256) ⌝ }
+    ensures { λ r. ⌜ Entered (now (at .entry)) set j (now (at .exit)) ⌝ }
 {
-    let l = least(heads, pos, neg, gate, back, k, true, i, o, i);
-    if intersection(l, o) != 0 {
-        return Bounds { i, o, clash: true };
-    }
-    let ins = union(i, intersection(l, x));
-    if unmoved(i, ins, grown) {
-        return Bounds { i, o, clash: false };
-    }
-    let u = least(heads, pos, neg, gate, back, k, false, ins, o, 0);
-    if !subset(ins, u) {
-        return Bounds { i, o, clash: true };
-    }
-    let outs = union(o, difference(x, u));
-    Bounds {
-        i: ins,
-        o: outs,
-        clash: false,
+    let mut left = set;
+    while 0 < left {
+        let a = lowest(left);
+        at[a] = (j % 256) as u8;
+        left = rest(left);
     }
 }
 
-// Is everything that is in as it was when the upper bound was last asked for?
-fn unmoved(a: u64, b: u64, grown: bool) -> bool {
-    if grown {
-        return false;
-    }
-    a == b
+// For each atom an index.
+pub struct Indices {
+    pub at: [u8; 64],
 }
 
-// Rounds until no further atom is out.
-fn settle(
-    heads: &[u8; 128],
-    pos: &[u64; 128],
-    neg: &[u64; 128],
-    gate: &[u64; 128],
-    back: &[u8; 128],
-    k: usize,
-    x: u64,
-    i: u64,
-    o: u64,
-    grown: bool,
-) -> Bounds
-    requires { ⌜ (k ≤ 128) × Low (now heads) k × Returning (now heads) (now pos) (now back) k ⌝ }
-    ensures { λ r. ⌜ Narrowed (now (heads .entry)) (now (pos .entry)) (now (neg .entry)) (now (gate .entry)) k x i o r ⌝ }
+// The first of k sets with the atom, or more than any index.
+fn firsts(sets: &[u64; 128], k: usize) -> Indices
+    requires { ⌜ k ≤ 128 ⌝ }
+    ensures { λ r. ⌜ Firsts (now (sets .entry)) k (r .at) ⌝ }
 {
-    let mut seen = o;
-    let mut b = narrow(heads, pos, neg, gate, back, k, x, i, o, grown);
-    while b.o != seen {
-        seen = b.o;
-        b = narrow(heads, pos, neg, gate, back, k, x, b.i, b.o, false);
+    let mut at: [u8; 64] = [255; 64];
+    let mut seen: u64 = 0;
+    let mut j = 0;
+    while j < k {
+        enter(&mut at, difference(sets[j], seen), j);
+        seen = union(seen, sets[j]);
+        j += 1;
+    }
+    Indices { at }
+}
+
+// The smaller of two indices.
+fn sooner(a: u8, b: usize) -> usize
+    ensures { λ r. ⌜ Sooner a b r ⌝ }
+{
+    if wide(a) < b {
+        return wide(a);
     }
     b
 }
 
-// The lowest atom of a set that is not empty.
-fn lowest(d: u64) -> usize
-    requires { ⌜ (d ≡ 0 → ⊥) ⌝ }
-    ensures { λ r. ⌜ Member d r ⌝ }
-{
-    let mut a = 0;
-    while a < 64 {
-        if has(d, a) {
-            return a;
-        }
-        a += 1;
-    }
-    0
+// For each rule the index at which a pass goes on when the rule adds its head.
+pub struct Returns {
+    pub at: [u8; 128],
 }
 
-// What it settles to decide an atom, 0 where it is not in d: how many atoms its being out adds to the lower bound l or its being
-// in takes from the upper bound u, and more than any number of atoms where one of the two is refuted.
-fn weight(
-    heads: &[u8; 128],
-    pos: &[u64; 128],
-    neg: &[u64; 128],
-    gate: &[u64; 128],
-    back: &[u8; 128],
-    k: usize,
-    d: u64,
-    i: u64,
-    o: u64,
-    l: u64,
-    u: u64,
-    a: usize,
-) -> u32
-    requires { ⌜ (k ≤ 128) × Low (now heads) k × Returning (now heads) (now pos) (now back) k × (a < 64) ⌝ }
+// The first rule with that head among its positive atoms, or the rule's successor.
+fn returns_of(heads: &[u8; 128], pos: &[u64; 128], k: usize) -> Returns
+    requires { ⌜ (k ≤ 128) × Low (now heads) k ⌝ }
+    ensures { λ r. ⌜ Returning (now (heads .entry)) (now (pos .entry)) (r .at) k ⌝ }
 {
-    if !has(d, a) {
-        return 0;
+    let table = firsts(pos, k);
+    let first = table.at;
+    let mut at: [u8; 128] = [0; 128];
+    let mut j = 0;
+    while j < k {
+        let h = wide(heads[j]);
+        let next = sooner(first[h], j + 1);
+        at[j] = (next % 256) as u8;
+        j += 1;
     }
-    let outs = with(o, a);
-    let more = least(heads, pos, neg, gate, back, k, true, i, outs, i);
-    if intersection(more, outs) != 0 {
-        return 65;
-    }
-    let ins = with(i, a);
-    let rest = least(heads, pos, neg, gate, back, k, false, ins, o, 0);
-    if !subset(ins, rest) {
-        return 65;
-    }
-    size(union(difference(more, l), difference(u, rest)))
+    Returns { at }
 }
 
-fn higher(a: u32, b: u32) -> u32 {
-    if b < a {
-        return a;
-    }
-    b
+// The number of stable models of a table's program, x being its negated atoms.
+fn count_models(t: ProgramTable, ancestors: &[u64; 64], x: u64) -> u64
+    requires { ⌜ Readable t × Union (t .neg) (t .rules) x × (length (listed x) ≤ 16) ⌝ }
+    ensures { λ r. ⌜ r ≡ count (programIn t) ⌝ }
+{
+    let mut heads = t.heads;
+    let mut pos = t.pos;
+    let mut neg = t.neg;
+    let k = t.rules;
+    in_order(&mut heads, &mut pos, &mut neg, ancestors, k);
+    let returns = returns_of(&heads, &pos, k);
+    let back = returns.at;
+    let gate: [u64; 128] = [0; 128];
+    let sizes = Sizes {
+        rules: k,
+        constraints: t.constraints,
+    };
+    let d = Decisions {
+        atoms: x,
+        ins: 0,
+        outs: 0,
+    };
+    branch(&heads, &pos, &neg, &gate, &back, sizes, d, true)
 }
 
-// The atom a, where it is in d and heavier than best.
-fn better(d: u64, a: usize, w: u32, best: usize, most: u32) -> usize
-    requires { ⌜ a < 64 ⌝ }
-    ensures { λ r. ⌜ (Member d best → Member d r) ⌝ }
-{
-    if has(d, a) {
-        if most < w {
-            return a;
-        }
-        return best;
-    }
-    best
+// Whether too many atoms are negated, and if not the number of stable models.
+pub struct Found {
+    pub crowded: bool,
+    pub states: u64,
 }
 
-// An atom of d that settles most.
-fn heaviest(
-    heads: &[u8; 128],
-    pos: &[u64; 128],
-    neg: &[u64; 128],
-    gate: &[u64; 128],
-    back: &[u8; 128],
-    k: usize,
-    d: u64,
-    i: u64,
-    o: u64,
-) -> usize
-    requires { ⌜ (k ≤ 128) × Low (now heads) k × Returning (now heads) (now pos) (now back) k × (d ≡ 0 → ⊥) ⌝ }
-    ensures { λ r. ⌜ Member d r ⌝ }
+// The stable models of a table's program, counted. The atoms' sets of ancestors give the order of its rules.
+pub fn count(t: ProgramTable, ancestors: &[u64; 64]) -> Found
+    requires { ⌜ Readable t ⌝ }
+    ensures { λ r. ⌜ TableCounted t r ⌝ }
 {
-    let l = least(heads, pos, neg, gate, back, k, true, i, o, i);
-    let u = least(heads, pos, neg, gate, back, k, false, i, o, 0);
-    let mut best = lowest(d);
-    let mut most: u32 = 0;
-    let mut a = 0;
-    while a < 64 {
-        let w = weight(heads, pos, neg, gate, back, k, d, i, o, l, u, a);
-        best = better(d, a, w, best, most);
-        most = higher(w, most);
-        a += 1;
+    let neg = t.neg;
+    let x = negated(&neg, t.rules);
+    if 16 < size(x) {
+        return Found {
+            crowded: true,
+            states: 0,
+        };
     }
-    best
-}
-
-// The atom of d to decide next. With few left to decide the search is short, and to weigh them would take longer.
-fn pick(
-    heads: &[u8; 128],
-    pos: &[u64; 128],
-    neg: &[u64; 128],
-    gate: &[u64; 128],
-    back: &[u8; 128],
-    k: usize,
-    d: u64,
-    i: u64,
-    o: u64,
-) -> usize
-    requires { ⌜ (k ≤ 128) × Low (now heads) k × Returning (now heads) (now pos) (now back) k × (d ≡ 0 → ⊥) ⌝ }
-    ensures { λ r. ⌜ Member d r ⌝ }
-{
-    if size(d) <= 8 {
-        return lowest(d);
+    let states = count_models(t, ancestors, x);
+    Found {
+        crowded: false,
+        states,
     }
-    heaviest(heads, pos, neg, gate, back, k, d, i, o)
-}
-
-// The number of settled states that have i and nothing of o, where the atoms of x are to be decided.
-pub fn branch(
-    heads: &[u8; 128],
-    pos: &[u64; 128],
-    neg: &[u64; 128],
-    gate: &[u64; 128],
-    back: &[u8; 128],
-    k: usize,
-    cpos: &[u64; 128],
-    cneg: &[u64; 128],
-    m: usize,
-    x: u64,
-    i: u64,
-    o: u64,
-    grown: bool,
-) -> u64
-    requires { ⌜ (k ≤ 128) × Low (now heads) k × Returning (now heads) (now pos) (now back) k × (m ≤ 128) × (undecided x i o ≤ 16) ⌝ }
-    ensures { λ r. ⌜ Counted (now (heads .entry)) (now (pos .entry)) (now (neg .entry)) (now (gate .entry)) k (now (cpos .entry)) (now (cneg .entry)) m x i o r ⌝ }
-{
-    let b = settle(heads, pos, neg, gate, back, k, x, i, o, grown);
-    if b.clash {
-        return 0;
-    }
-    let ins = b.i;
-    let outs = b.o;
-    let d = difference(x, union(ins, outs));
-    if d == 0 {
-        return last(heads, pos, neg, gate, back, k, cpos, cneg, m, ins, outs);
-    }
-    let c = pick(heads, pos, neg, gate, back, k, d, ins, outs);
-    let inside = branch(
-        heads,
-        pos,
-        neg,
-        gate,
-        back,
-        k,
-        cpos,
-        cneg,
-        m,
-        x,
-        with(ins, c),
-        outs,
-        true,
-    );
-    let outside = branch(
-        heads,
-        pos,
-        neg,
-        gate,
-        back,
-        k,
-        cpos,
-        cneg,
-        m,
-        x,
-        ins,
-        with(outs, c),
-        false,
-    );
-    inside + outside
 }

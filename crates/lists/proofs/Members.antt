@@ -170,6 +170,9 @@ pub below-in : (n : ℕ) (l : List ℕ) → ((a : ℕ) → List·Memᴰ a l → 
 unfolding below
 below-in n l h = all-intro (λ a. ltb a n) l (λ a m. lt-ltb a n (h a m))
 
+pub below-more : (n k : ℕ) (l : List ℕ) → n ≤ k → below n l ≡ true → below k l ≡ true
+below-more n k l h e = below-in k l (λ a m. let b = below-at n l e a m in omega arith)
+
 pub record Between (a k b : ℕ) : Type 0 where
   pub low : a ≤ b
   pub high : b < a + k

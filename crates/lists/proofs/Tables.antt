@@ -24,3 +24,11 @@ module _ {A : Type 0} (f : ℕ → A) (l : List ℕ) (k x : ℕ) where
       ap (map (at-index (set l k x))) (range-append 0 k 1)
       ∙ (map-append (at-index (set l k x)) (range 0 k) (range (0 + k) 1)
       ∙ ap₂ _++_ table-same (ap (λ y. f y ∷ []) (ap (λ j. getD (set l k x) j 0) (zero-add k) ∙ getD-set-same l k x 0 h)))
+
+-- A list made from the first k numbers, with one element more.
+pub range-grown : {A : Type 0} (f g : ℕ → A) (k : ℕ) (x : A) → ((i : ℕ) → i < k → g i ≡ f i) → g k ≡ x → map g (range 0 (k + 1)) ≡ map f (range 0 k) ++ (x ∷ [])
+unfolding range
+range-grown f g k x same new =
+    ap (map g) (range-append 0 k 1)
+    ∙ (map-append g (range 0 k) (range (0 + k) 1)
+    ∙ ap₂ _++_ (map-cong g f (range 0 k) (λ i m. let h = range-out 0 k i m .high in same i (omega arith))) (ap (λ y. y ∷ []) (ap g (zero-add k) ∙ new)))

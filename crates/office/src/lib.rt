@@ -8,16 +8,8 @@ use core::TestAnswer;
 use core::WriteAnswer;
 use sheet::Limits;
 ghost use mathlib.Core.Path.{_≡_};
-ghost use mathlib.Core.List.{_∷_, []};
-ghost use mathlib.Core.Bool.{cond};
-ghost use lib.Dec.{eqb};
-ghost use lib.ListN.{length};
-ghost use Rattle.sheet.specs.Format.{atomsByte, recordsByte, positives};
-ghost use Rattle.core.specs.Outcome.{readOf, bodyOf, testOf, clausesOf, countOf, outcome, Writes};
-ghost use Rattle.core.specs.Bodies.{BodyFound};
-ghost use Rattle.core.specs.Outputs.{componentBytes, defaultBytes, place, stretch, unfoldedWords};
-ghost use Rattle.core.specs.Operations.{readQuestions, bodyQuestions, componentsQuestions, defaultQuestions, testQuestions, unfoldedQuestions, countQuestions, countValues};
-ghost use Rattle.core.specs.Demands.{ClausesPromise};
+ghost use Rattle.core.specs.Promises.{ReadPromise, BodyPromise, SlicePromise, FindPromise, ComponentsPromise, DefaultPromise};
+ghost use Rattle.core.specs.Promises.{TestPromise, UnfoldedPromise, ClausesPromise, CountPromise};
 ghost use Rattle.office.specs.Office.{office};
 
 fn limits() -> Limits
@@ -33,70 +25,70 @@ fn limits() -> Limits
 
 // Reading: the refusal, or the numbers of atoms and records.
 pub fn read(s: &[u8]) -> ReadAnswer
-    ensures { λ r. ⌜ readOf r ≡ outcome (readQuestions office (now (s .entry))) (atomsByte (now (s .entry)) ∷ recordsByte (now (s .entry)) ∷ []) ⌝ }
+    ensures { λ r. ⌜ ReadPromise office (now (s .entry)) r ⌝ }
 {
     core::read(limits(), s)
 }
 
 // Showing a body: the refusal, or the number of positive atoms.
 pub fn body(s: &[u8], number: usize) -> BodyAnswer
-    ensures { λ r. ⌜ bodyOf r ≡ outcome (bodyQuestions office number (now (s .entry))) (positives (now (s .entry)) (place number (now (s .entry))) ∷ []) ⌝ }
+    ensures { λ r. ⌜ BodyPromise office number (now (s .entry)) r ⌝ }
 {
     core::body(limits(), s, number)
 }
 
-// Showing a body: its stretch of the sheet, empty on a refusal.
-pub fn body_stretch(s: &[u8], number: usize) -> &[u8]
-    ensures { λ r. ⌜ now r ≡ cond (eqb (bodyQuestions office number (now (s .entry))) 0) (stretch number (now (s .entry))) [] ⌝ }
+// Showing a body: its slice of the sheet, empty on a refusal.
+pub fn body_slice(s: &[u8], number: usize) -> &[u8]
+    ensures { λ r. ⌜ SlicePromise office number (now (s .entry)) (now r) ⌝ }
 {
-    core::body_stretch(limits(), s, number)
+    core::body_slice(limits(), s, number)
 }
 
 // Finding components: for each atom one byte, the smallest atom of its component.
 pub fn components(s: &[u8], out: &mut [u8]) -> WriteAnswer
-    ensures { λ r. ⌜ Writes (componentsQuestions office (length (now (out .entry))) (now (s .entry))) (componentBytes (now (s .entry))) (now (out .entry)) (now (out .exit)) r ⌝ }
+    ensures { λ r. ⌜ ComponentsPromise office (now (s .entry)) (now (out .entry)) (now (out .exit)) r ⌝ }
 {
     core::components(limits(), s, out)
 }
 
 // The default sequence, header included.
 pub fn default_sequence(s: &[u8], out: &mut [u8]) -> WriteAnswer
-    ensures { λ r. ⌜ Writes (defaultQuestions office (length (now (out .entry))) (now (s .entry))) (defaultBytes (now (s .entry))) (now (out .entry)) (now (out .exit)) r ⌝ }
+    ensures { λ r. ⌜ DefaultPromise office (now (s .entry)) (now (out .entry)) (now (out .exit)) r ⌝ }
 {
     core::default_sequence(limits(), s, out)
 }
 
-// Showing a body: the refusal, or where its stretch of the sheet starts and ends.
+// Showing a body: the refusal, or where its slice of the sheet starts and ends.
 pub fn find_body(s: &[u8], number: usize) -> BodyPlace
-    ensures { λ r. ⌜ BodyFound office number (now (s .entry)) r ⌝ }
+    ensures { λ r. ⌜ FindPromise office number (now (s .entry)) r ⌝ }
 {
     core::find_body(limits(), s, number)
 }
 
-// Counting the settled states: the refusal, or their number and the verdict.
+// Counting the stable models: the refusal, or their number and the verdict.
 pub fn count(s: &[u8]) -> CountAnswer
-    ensures { λ r. ⌜ countOf r ≡ outcome (countQuestions office (now (s .entry))) (countValues (now (s .entry))) ⌝ }
+    ensures { λ r. ⌜ CountPromise office (now (s .entry)) r ⌝ }
 {
     core::count(limits(), s)
 }
 
 // Testing a sequence: the refusal, or that it passed.
 pub fn test(s: &[u8], q: &[u8]) -> TestAnswer
-    ensures { λ r. ⌜ testOf r ≡ outcome (testQuestions office (now (s .entry)) (now (q .entry))) [] ⌝ }
+    ensures { λ r. ⌜ TestPromise office (now (s .entry)) (now (q .entry)) r ⌝ }
 {
     core::test(limits(), s, q)
 }
 
 // Writing the unfolded program: the refusal, or the number of words.
 pub fn unfolded(s: &[u8], q: &[u8], out: &mut [u32]) -> WriteAnswer
-    ensures { λ r. ⌜ Writes (unfoldedQuestions office (length (now (out .entry))) (now (s .entry)) (now (q .entry))) (unfoldedWords (now (s .entry)) (now (q .entry))) (now (out .entry)) (now (out .exit)) r ⌝ }
+    ensures { λ r. ⌜ UnfoldedPromise office (now (s .entry)) (now (q .entry)) (now (out .entry)) (now (out .exit)) r ⌝ }
 {
     core::unfolded(limits(), s, q, out)
 }
 
 // Writing clauses: the refusal, or the numbers of words, of variables and of clauses.
 pub fn clauses(s: &[u8], q: &[u8], out: &mut [i32]) -> ClausesAnswer
-    ensures { λ r. ⌜ ClausesPromise office (now (s .entry)) (now (q .entry)) (now (out .entry)) (now (out .exit)) (clausesOf r) ⌝ }
+    ensures { λ r. ⌜ ClausesPromise office (now (s .entry)) (now (q .entry)) (now (out .entry)) (now (out .exit)) r ⌝ }
 {
     core::clauses(limits(), s, q, out)
 }

@@ -1,5 +1,4 @@
 pub mod Lists
 pub mod Records
 pub mod Walk
-pub mod Known
 pub mod Sequences

@@ -11,7 +11,8 @@ use lib.ListN.{length, drop, drop-of-length-le}
 use lib.Seq.{drop-cons}
 use Rattle.lists.specs.Lists.{all, below}
 use Rattle.lists.proofs.Bools.{by-bool}
-use Rattle.bits.specs.Sets.{ByteAt}
+use Rattle.bits.specs.inner.Sets.{ByteAt}
+use Rattle.bits.proofs.Rising.{climb}
 use Rattle.sheet.specs.Format.{kindFits, rising, listFits}
 
 pub kind-rule : (n k h : ℕ) → k ≡ 0 → ltb h n ≡ kindFits n k h
@@ -26,11 +27,6 @@ pub kind-other : (n k h : ℕ) → (k ≡ 0 → ⊥) → (k ≡ 1 → ⊥) → f
 unfolding kindFits
 kind-other n k h p q = rw (ne-eqb k 0 p, ne-eqb k 1 q) refl
 
--- The test of a list, element by element: each is at least the low end, which then is one above it.
-pub climb : ℕ → ℕ → List ℕ → Bool
-climb low n [] = true
-climb low n (x ∷ l) = leb low x && (ltb x n && climb (suc x) n l)
-
 -- Behind an element a.
 climb-behind : (n a : ℕ) (l : List ℕ) → climb (suc a) n l ≡ (below n l && rising (a ∷ l))
 unfolding climb below all rising
@@ -40,7 +36,7 @@ climb-behind n a (x ∷ l) =
     ∙ by-bool (ltb a x) (λ t. rw t (by-bool (ltb x n) (λ u. rw u refl) (λ u. rw u refl)))
     (λ t. rw t (by-bool (ltb x n && below n l) (λ u. rw u refl) (λ u. rw u refl)))
 
-climb-is : (n : ℕ) (l : List ℕ) → climb 0 n l ≡ listFits n l
+pub climb-is : (n : ℕ) (l : List ℕ) → climb 0 n l ≡ listFits n l
 unfolding climb listFits below all rising
 climb-is n [] = refl
 climb-is n (x ∷ l) =

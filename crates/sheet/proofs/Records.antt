@@ -9,9 +9,10 @@ use borrow.Author.Tests.{eq-eqb, ne-eqb, lt-ltb, le-leb, lt-leb, ltb-true, leb-t
 use lib.Dec.{eqb, ltb, leb}
 use lib.ListN.{length}
 use Rattle.lists.proofs.Bools.{is-true, is-false, bool-ext, and-intro, and-left, and-right}
-use Rattle.bits.specs.Sets.{ByteAt}
+use Rattle.bits.specs.inner.Sets.{ByteAt}
 use Rattle.sheet.specs.Questions.{ask, _then_}
-use Rattle.sheet.specs.Format.{part, size, positives, end, Complete, opens, measured, limited, complete, kindFits, kindPasses, listFits, listsFit, recordQuestions, recordsQuestions, formQuestions, lengthField, atomsByte, recordsByte, byte}
+use Rattle.sheet.specs.Format.{part, size, positives, end, opens, measured, limited, complete, kindFits, kindPasses, listFits, listsFit, recordQuestions, recordsQuestions, lengthField, atomsByte, recordsByte, byte}
+use Rattle.sheet.specs.inner.Walk.{Complete, formQuestions}
 use Rattle.sheet.specs.declared.Limits.{Limits}
 
 -- Questions.
@@ -99,16 +100,6 @@ module _ (s : List ℕ) (at : ℕ) where
   unfolding recordQuestions
   record-kind n b c e t g f = sym (ask-yes (sym e ∙ t) 4 _ ∙ ask-no (sym g ∙ f) 5 _ (λ e. omega arith))
 
-  pub record-lists : (n : ℕ) (b c d : Bool) → b ≡ complete s at → b ≡ true → c ≡ kindPasses n s at → c ≡ true → d ≡ listsFit n s at → d ≡ false
-      → 6 ≡ recordQuestions n s at
-  unfolding recordQuestions ask
-  record-lists n b c d e t g u h f = sym (ask-yes (sym e ∙ t) 4 _ ∙ (ask-yes (sym g ∙ u) 5 _ ∙ rw (sym h ∙ f) refl))
-
-  pub record-fine : (n : ℕ) (b c d : Bool) → b ≡ complete s at → b ≡ true → c ≡ kindPasses n s at → c ≡ true → d ≡ listsFit n s at → d ≡ true
-      → 0 ≡ recordQuestions n s at
-  unfolding recordQuestions ask
-  record-fine n b c d e t g u h f = sym (ask-yes (sym e ∙ t) 4 _ ∙ (ask-yes (sym g ∙ u) 5 _ ∙ rw (sym h ∙ f) refl))
-
 -- The loop over the records.
 pub record Checking (n : ℕ) (s : List ℕ) (m left at : ℕ) : Type 0 where
   pub same : recordsQuestions left n s at ≡ recordsQuestions m n s 5
@@ -121,9 +112,6 @@ record-known n s at e = complete-out s at (is-true (λ f. let q = e ∙ ask-no f
 module _ (n : ℕ) (s : List ℕ) (m : ℕ) where
   pub checking-start : 5 ≤ length s → Checking n s m m 5
   checking-start l = record { same = refl; inside = l }
-
-  pub checking-known : (q at : ℕ) → q ≡ recordQuestions n s at → q ≡ 0 → at < length s
-  checking-known q at e z = record-known n s at (sym z ∙ e) .starts
 
   turned : (left at : ℕ) → 0 < left → recordsQuestions left n s at ≡ recordQuestions n s at then recordsQuestions (left - 1) n s (end s at)
   unfolding recordsQuestions

@@ -11,7 +11,7 @@ use lib.ListN.{length, drop, drop-of-length-le}
 use lib.Seq.{drop-cons}
 use Rattle.lists.specs.Lists.{all, below}
 use Rattle.lists.proofs.Bools.{is-false, and-intro, and-left, and-right, bool-ext}
-use Rattle.bits.specs.Sets.{ByteAt}
+use Rattle.bits.specs.inner.Sets.{ByteAt}
 use Rattle.sheet.specs.Format.{byte}
 use Rattle.sheet.specs.Sequence.{entriesField, entries, sequenceFits}
 use Rattle.sheet.specs.declared.Limits.{Limits}

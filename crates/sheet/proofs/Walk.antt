@@ -14,8 +14,9 @@ use Rattle.lists.proofs.Bools.{by-bool, true-false, and-intro, and-left, and-ri
 use Rattle.lists.proofs.Members.{all-intro, filter-out}
 use Rattle.asp.specs.Program.{bodyBelow, ruleBelow, wellFormed}
 use Rattle.sheet.specs.Questions.{ask, _then_}
-use Rattle.sheet.specs.Format.{end, posOf, negOf, kind, head, complete, kindFits, kindPasses, rising, listFits, listsFit, limited, opens, measured, recordQuestions, recordsQuestions, formQuestions, atomsByte, recordsByte}
-use Rattle.sheet.specs.Sheet.{Record, recordAt, recordsFrom, records, rulesOf, constraintsOf, programOf, program, Known, Walk, Stepped}
+use Rattle.sheet.specs.Format.{end, posOf, negOf, kind, head, complete, kindFits, kindPasses, rising, listFits, listsFit, limited, opens, measured, recordQuestions, recordsQuestions, atomsByte, recordsByte}
+use Rattle.sheet.specs.inner.Walk.{formQuestions, Known, Walk, Stepped}
+use Rattle.sheet.specs.Sheet.{Record, recordAt, recordsFrom, records, rulesOf, constraintsOf, programOf, program}
 use Rattle.sheet.specs.declared.Limits.{Limits}
 use Rattle.sheet.proofs.Records.{complete-out}
 

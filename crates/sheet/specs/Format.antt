@@ -1,7 +1,7 @@
 -- The bytes of a sheet ("Bytes of a sheet" of document 01) and questions 1 to 6.
 use mathlib.Core.Bool.{Bool, true, _&&_, _||_}
 use mathlib.Core.List.{List, [], _∷_}
-use Prim.Native.Nat.{ℕ, zero, suc, _+_, _*_, _-_, _≤_, _<_}
+use Prim.Native.Nat.{ℕ, zero, suc, _+_, _*_, _-_}
 use lib.Dec.{eqb, ltb, leb}
 use lib.ListN.{length, getD, take, drop}
 use Rattle.lists.specs.Lists.{below}
@@ -42,7 +42,7 @@ end s at = at + 1 + size s at
 abbrev pub middle : List ℕ → ℕ → ℕ
 middle s at = at + 4 + positives s at
 
--- The stretch of the bytes from a up to e.
+-- The slice of the bytes from a up to e.
 abbrev pub part : ℕ → ℕ → List ℕ → List ℕ
 part a e s = take (e - a) (drop a s)
 
@@ -68,13 +68,6 @@ limited L s = leb (atomsByte s) (L .atoms) && leb (recordsByte s) (L .records)
 -- Question 4, of a record: complete within the sheet, k at least 3, p at most k - 3.
 unfoldable pub complete : List ℕ → ℕ → Bool
 complete s at = ltb at (length s) && leb 3 (size s at) && leb (end s at) (length s) && leb (positives s at) (size s at - 3)
-
--- What a record that passes question 4 is known by.
-pub record Complete (s : List ℕ) (at : ℕ) : Type 0 where
-  pub starts : at < length s
-  pub three : 3 ≤ size s at
-  pub fits : end s at ≤ length s
-  pub split : positives s at ≤ size s at - 3
 
 -- Question 5: kind 0 with head below n, or 1 with head 0.
 unfoldable pub kindFits : ℕ → ℕ → ℕ → Bool
@@ -107,8 +100,3 @@ recordQuestions n s at =
 unfoldable pub recordsQuestions : ℕ → ℕ → List ℕ → ℕ → ℕ
 recordsQuestions zero n s at = ask (eqb at (length s)) 4
 recordsQuestions (suc k) n s at = recordQuestions n s at then recordsQuestions k n s (end s at)
-
--- Questions 1 to 6.
-unfoldable pub formQuestions : Limits → List ℕ → ℕ
-formQuestions L s =
-    ask (opens s) 1 then ask (measured s) 2 then ask (limited L s) 3 then recordsQuestions (recordsByte s) (atomsByte s) s 5

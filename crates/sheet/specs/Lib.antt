@@ -2,3 +2,4 @@ pub mod Questions
 pub mod Format
 pub mod Sheet
 pub mod Sequence
+pub mod inner

@@ -11,8 +11,8 @@ use Rattle.lists.proofs.Bools.{true-false, is-false}
 use Rattle.lists.proofs.Members.{range-in, range-out}
 use Rattle.lists.proofs.Nodup.{nodup-range, filter-le, filter-lt}
 use Rattle.asp.specs.Program.{Program, wellFormed}
-use Rattle.unfolding.specs.Graph.{edge, reach, together}
-use Rattle.unfolding.proofs.Reach.{edge-below, reach-refl, reach-edge, reach-trans, together-sym, together-there, together-in}
+use Rattle.unfolding.specs.Graph.{edge, reach, sameComponent}
+use Rattle.unfolding.proofs.Reach.{edge-below, reach-refl, reach-edge, reach-trans, same-sym, same-there, same-in}
 
 pub ancestors : Program → ℕ → ℕ
 ancestors P a = length (filter (λ b. reach P b a) (range 0 (P .atoms)))
@@ -26,13 +26,13 @@ module _ (P : Program) (wf : wellFormed P ≡ true) where
   fewer a b r =
       filter-le (λ c. reach P c a) (λ c. reach P c b) (range 0 (P .atoms)) (nodup-range 0 (P .atoms)) (λ c m q. reach-trans P wf c a b (in-range c m) q r)
 
-  pub ancestors-same : (a b : ℕ) → a < P .atoms → together P a b ≡ true → ancestors P a ≡ ancestors P b
-  ancestors-same a b l t = le-antisymm (fewer a b (together-there P wf a b t)) (fewer b a (together-there P wf b a (together-sym P wf a b t)))
+  pub ancestors-same : (a b : ℕ) → a < P .atoms → sameComponent P a b ≡ true → ancestors P a ≡ ancestors P b
+  ancestors-same a b l t = le-antisymm (fewer a b (same-there P wf a b t)) (fewer b a (same-there P wf b a (same-sym P wf a b t)))
 
-  pub ancestors-less : (b a : ℕ) → b < P .atoms → edge P b a ≡ true → together P a b ≡ false → ancestors P b < ancestors P a
+  pub ancestors-less : (b a : ℕ) → b < P .atoms → edge P b a ≡ true → sameComponent P a b ≡ false → ancestors P b < ancestors P a
   unfolding ancestors
   ancestors-less b a l e f =
       let low = edge-below P wf b a e in
       filter-lt (λ c. reach P c b) (λ c. reach P c a) (range 0 (P .atoms)) (nodup-range 0 (P .atoms)) (λ c m q. reach-edge P wf c (in-range c m) b a q e)
       a (range-in 0 (P .atoms) a (omega arith) (omega arith))
-      (is-false (λ r. true-false (together-in P wf a b r (reach-edge P wf b l b a (reach-refl P wf b l) e)) f)) (reach-refl P wf a low)
+      (is-false (λ r. true-false (same-in P wf a b r (reach-edge P wf b l b a (reach-refl P wf b l) e)) f)) (reach-refl P wf a low)

@@ -12,7 +12,7 @@ use Rattle.lists.proofs.Bools.{by-bool, true-false, and-left, and-right}
 use Rattle.lists.proofs.Members.{all-at, filter-out, flatMap-out}
 use Rattle.asp.specs.Program.{Body, Rule, Program, wellFormed}
 use Rattle.asp.proofs.Derived.{rule-atoms, constraint-atoms}
-use Rattle.unfolding.specs.Graph.{edge, together}
+use Rattle.unfolding.specs.Graph.{edge, sameComponent}
 use Rattle.unfolding.specs.Unfolded.{Copy, last, copied, latest, usable, replaced, renamed, isKept, keptFor, variable, copiesFrom, unfolded}
 use Rattle.unfolding.proofs.Reach.{edge-in}
 use Rattle.unfolding.proofs.Completion.{Names, bodies}
@@ -27,8 +27,8 @@ copied-latest (c ∷ past) b e =
 
 -- Where a positive variable of a kept rule comes from: an earlier copy of an atom of a's component, or the last copy of an atom of another.
 pub data Source (P : Program) (past : List Copy) (a v : ℕ) : Type 0 where
-  earlier : (c : Copy) → List·Memᴰ c past → together P a (c .atom) ≡ true → v ≡ c .var → Source P past a v
-  final : (b : ℕ) → edge P b a ≡ true → b < P .atoms → together P a b ≡ false → v ≡ last b → Source P past a v
+  earlier : (c : Copy) → List·Memᴰ c past → sameComponent P a (c .atom) ≡ true → v ≡ c .var → Source P past a v
+  final : (b : ℕ) → edge P b a ≡ true → b < P .atoms → sameComponent P a b ≡ false → v ≡ last b → Source P past a v
 
 module _ (P : Program) (wf : wellFormed P ≡ true) where
   pub source : (past : List Copy) (a : ℕ) (b : Body) → List·Memᴰ b (keptFor P past a) → (v : ℕ) → List·Memᴰ v (b .pos) → Source P past a v
@@ -40,14 +40,14 @@ module _ (P : Program) (wf : wellFormed P ≡ true) where
       let u = Memᴰ·of-map (replaced P past a) (r .body .pos) (subst (λ (b : Body). List·Memᴰ v (b .pos)) (sym (q .2)) k) in
       let head = eqb-true (r .head) a (and-left (eqb (r .head) a) (all (usable P past a) (r .body .pos)) (f .1)) in
       let can = all-at (usable P past a) (r .body .pos) (and-right (eqb (r .head) a) (all (usable P past a) (r .body .pos)) (f .1)) (u .0) (u .1) in
-      by-bool (together P a (u .0)) (λ t. same (u .0) t can (u .2)) (λ t. final (u .0) (edge-in P r (f .0) (u .0) a head (u .1)) (rule-atoms P wf r (f .0) (u .0) (inl (u .1))) t (other (u .0) t (u .2)))
+      by-bool (sameComponent P a (u .0)) (λ t. same (u .0) t can (u .2)) (λ t. final (u .0) (edge-in P r (f .0) (u .0) a head (u .1)) (rule-atoms P wf r (f .0) (u .0) (inl (u .1))) t (other (u .0) t (u .2)))
     where
-      same : (x : ℕ) → together P a x ≡ true → usable P past a x ≡ true → replaced P past a x ≡ v → Source P past a v
+      same : (x : ℕ) → sameComponent P a x ≡ true → usable P past a x ≡ true → replaced P past a x ≡ v → Source P past a v
       same x t can e =
           let c = copied-latest past x (rw t at can) in
-          earlier (c .0) (c .1) (ap (together P a) (c .2) ∙ t) (sym (rw t at e) ∙ c .3)
+          earlier (c .0) (c .1) (ap (sameComponent P a) (c .2) ∙ t) (sym (rw t at e) ∙ c .3)
 
-      other : (x : ℕ) → together P a x ≡ false → replaced P past a x ≡ v → v ≡ last x
+      other : (x : ℕ) → sameComponent P a x ≡ false → replaced P past a x ≡ v → v ≡ last x
       other x t e = sym (rw t at e)
 
   -- The negative variables of a kept rule are last copies.

@@ -13,9 +13,9 @@ use Rattle.lists.proofs.Bools.{true-false, is-false, and-intro, and-left, and-r
 use Rattle.lists.proofs.Members.{below-at, below-in, all-at, all-intro, filter-in, filter-out, flatMap-in, flatMap-out, member-in, member-out, range-in, range-out}
 use Rattle.lists.proofs.Nodup.{nodup-cons, nodup-head, nodup-le, length-range}
 use Rattle.asp.specs.Program.{Program, wellFormed}
-use Rattle.unfolding.specs.Graph.{edge, together}
+use Rattle.unfolding.specs.Graph.{edge, sameComponent}
 use Rattle.unfolding.specs.Chain.{linked, Chain, Passes, extends, longer, chainsOf, chains, found, passes}
-use Rattle.unfolding.proofs.Reach.{together-refl, together-sym}
+use Rattle.unfolding.proofs.Reach.{same-refl, same-sym}
 
 -- `found` is the kit's sublist relation.
 found-out : (w s : List ℕ) → found w s ≡ true → Sublistᴰ w s
@@ -35,21 +35,21 @@ found-in (a ∷ w) (x ∷ s) h =
     (λ k. or-left (found (a ∷ w) s) (and-intro (eq-eqb a x (k .0)) (found-in w s (k .1)))) (Sublistᴰ·cases-cons-cons h)
 
 module _ (P : Program) where
-  pub component-at : (w : List ℕ) → Chain P w → (a b : ℕ) → List·Memᴰ a w → List·Memᴰ b w → together P a b ≡ true
-  component-at w C a b m k = all-at (together P a) w (all-at (λ a. all (together P a) w) w (C .component) a m) b k
+  pub component-at : (w : List ℕ) → Chain P w → (a b : ℕ) → List·Memᴰ a w → List·Memᴰ b w → sameComponent P a b ≡ true
+  component-at w C a b m k = all-at (sameComponent P a) w (all-at (λ a. all (sameComponent P a) w) w (C .component) a m) b k
 
   -- The parts of the test that an atom can stand in front.
   extends-edges : (w : List ℕ) (b : ℕ) → extends P w b ≡ true → linked P (b ∷ w) ≡ true
   unfolding extends
-  extends-edges w b e = and-left (linked P (b ∷ w)) (all (together P b) w) (and-left (linked P (b ∷ w) && all (together P b) w) (not (member b w)) e)
+  extends-edges w b e = and-left (linked P (b ∷ w)) (all (sameComponent P b) w) (and-left (linked P (b ∷ w) && all (sameComponent P b) w) (not (member b w)) e)
 
-  extends-together : (w : List ℕ) (b : ℕ) → extends P w b ≡ true → all (together P b) w ≡ true
+  extends-same : (w : List ℕ) (b : ℕ) → extends P w b ≡ true → all (sameComponent P b) w ≡ true
   unfolding extends
-  extends-together w b e = and-right (linked P (b ∷ w)) (all (together P b) w) (and-left (linked P (b ∷ w) && all (together P b) w) (not (member b w)) e)
+  extends-same w b e = and-right (linked P (b ∷ w)) (all (sameComponent P b) w) (and-left (linked P (b ∷ w) && all (sameComponent P b) w) (not (member b w)) e)
 
   extends-new : (w : List ℕ) (b : ℕ) → extends P w b ≡ true → List·Memᴰ b w → ⊥
   unfolding extends
-  extends-new w b e m = true-false (member-in b w m) (not-elim (and-right (linked P (b ∷ w) && all (together P b) w) (not (member b w)) e))
+  extends-new w b e m = true-false (member-in b w m) (not-elim (and-right (linked P (b ∷ w) && all (sameComponent P b) w) (not (member b w)) e))
 
   linked-tail : (b : ℕ) (w : List ℕ) → linked P (b ∷ w) ≡ true → linked P w ≡ true
   unfolding linked
@@ -63,14 +63,14 @@ module _ (P : Program) where
         atoms = below-in (P .atoms) (a ∷ w) (λ x m. below-at (P .atoms) (b ∷ a ∷ w) (C .atoms) x (List·Memᴰ·tail m));
         some = cons≢nil;
         different = Pairwise·of-cons (C .different);
-        component = all-intro (λ x. all (together P x) (a ∷ w)) (a ∷ w) (λ x m. all-intro (together P x) (a ∷ w) (λ y k. component-at (b ∷ a ∷ w) C x y (List·Memᴰ·tail m) (List·Memᴰ·tail k)));
+        component = all-intro (λ x. all (sameComponent P x) (a ∷ w)) (a ∷ w) (λ x m. all-intro (sameComponent P x) (a ∷ w) (λ y k. component-at (b ∷ a ∷ w) C x y (List·Memᴰ·tail m) (List·Memᴰ·tail k)));
         links = linked-tail b (a ∷ w) (C .links);
       }
 
   chain-extends : (b : ℕ) (w : List ℕ) → Chain P (b ∷ w) → extends P w b ≡ true
   unfolding extends
   chain-extends b w C =
-      and-intro (and-intro (C .links) (all-intro (together P b) w (λ y m. component-at (b ∷ w) C b y (List·Memᴰ·head refl) (List·Memᴰ·tail m))))
+      and-intro (and-intro (C .links) (all-intro (sameComponent P b) w (λ y m. component-at (b ∷ w) C b y (List·Memᴰ·head refl) (List·Memᴰ·tail m))))
       (not-intro (is-false (λ t. nodup-head (C .different) (member-out b w t))))
 
   chains-of-in : (w : List ℕ) (k : ℕ) → Chain P w → length w ≡ suc k → List·Memᴰ w (chainsOf P k)
@@ -102,28 +102,28 @@ module _ (P : Program) (wf : wellFormed P ≡ true) where
         atoms = below-in (P .atoms) (a ∷ []) (λ x m. subst (λ y. y < P .atoms) (sym (List·Memᴰ·eq-of-singleton m)) l);
         some = cons≢nil;
         different = nodup-cons (λ m. List·Memᴰ·not-nil m) Pairwise·nil;
-        component = all-intro (λ x. all (together P x) (a ∷ [])) (a ∷ []) (λ x m. all-intro (together P x) (a ∷ []) (λ y k.
-            subst (λ u. together P u y ≡ true) (sym (List·Memᴰ·eq-of-singleton m)) (subst (λ u. together P a u ≡ true) (sym (List·Memᴰ·eq-of-singleton k)) (together-refl P wf a l))));
+        component = all-intro (λ x. all (sameComponent P x) (a ∷ [])) (a ∷ []) (λ x m. all-intro (sameComponent P x) (a ∷ []) (λ y k.
+            subst (λ u. sameComponent P u y ≡ true) (sym (List·Memᴰ·eq-of-singleton m)) (subst (λ u. sameComponent P a u ≡ true) (sym (List·Memᴰ·eq-of-singleton k)) (same-refl P wf a l))));
         links = refl;
       }
 
   -- One atom more in front.
-  pub chain-cons : (b : ℕ) (w : List ℕ) → b < P .atoms → Chain P w → linked P (b ∷ w) ≡ true → all (together P b) w ≡ true → (List·Memᴰ b w → ⊥) → Chain P (b ∷ w)
+  pub chain-cons : (b : ℕ) (w : List ℕ) → b < P .atoms → Chain P w → linked P (b ∷ w) ≡ true → all (sameComponent P b) w ≡ true → (List·Memᴰ b w → ⊥) → Chain P (b ∷ w)
   chain-cons b w l C e t new =
       record {
         atoms = below-in (P .atoms) (b ∷ w) (λ x m. ⊎-elim (λ q. subst (λ y. y < P .atoms) (sym q) l) (below-at (P .atoms) w (C .atoms) x) (List·Memᴰ·cases-cons m));
         some = cons≢nil;
         different = nodup-cons new (C .different);
-        component = all-intro (λ x. all (together P x) (b ∷ w)) (b ∷ w) (λ x m. all-intro (together P x) (b ∷ w) (λ y k. pair x y (List·Memᴰ·cases-cons m) (List·Memᴰ·cases-cons k)));
+        component = all-intro (λ x. all (sameComponent P x) (b ∷ w)) (b ∷ w) (λ x m. all-intro (sameComponent P x) (b ∷ w) (λ y k. pair x y (List·Memᴰ·cases-cons m) (List·Memᴰ·cases-cons k)));
         links = e;
       }
     where
-      pair : (x y : ℕ) → (x ≡ b) ⊎ List·Memᴰ x w → (y ≡ b) ⊎ List·Memᴰ y w → together P x y ≡ true
+      pair : (x y : ℕ) → (x ≡ b) ⊎ List·Memᴰ x w → (y ≡ b) ⊎ List·Memᴰ y w → sameComponent P x y ≡ true
       pair x y =
           ⊎-elim
-          (λ p. ⊎-elim (λ q. subst (λ u. together P u y ≡ true) (sym p) (subst (λ u. together P b u ≡ true) (sym q) (together-refl P wf b l)))
-          (λ k. subst (λ u. together P u y ≡ true) (sym p) (all-at (together P b) w t y k)))
-          (λ m. ⊎-elim (λ q. subst (λ u. together P x u ≡ true) (sym q) (together-sym P wf b x (all-at (together P b) w t x m))) (λ k. component-at P w C x y m k))
+          (λ p. ⊎-elim (λ q. subst (λ u. sameComponent P u y ≡ true) (sym p) (subst (λ u. sameComponent P b u ≡ true) (sym q) (same-refl P wf b l)))
+          (λ k. subst (λ u. sameComponent P u y ≡ true) (sym p) (all-at (sameComponent P b) w t y k)))
+          (λ m. ⊎-elim (λ q. subst (λ u. sameComponent P x u ≡ true) (sym q) (same-sym P wf b x (all-at (sameComponent P b) w t x m))) (λ k. component-at P w C x y m k))
 
   chains-of-out : (k : ℕ) (w : List ℕ) → List·Memᴰ w (chainsOf P k) → Chain P w
   unfolding chainsOf longer
@@ -137,7 +137,7 @@ module _ (P : Program) (wf : wellFormed P ≡ true) where
       let f = filter-out (extends P (u .0)) (range 0 (P .atoms)) (v .0) (v .1) in
       let r = range-out 0 (P .atoms) (v .0) (f .0) in
       subst (Chain P) (v .2)
-      (chain-cons (v .0) (u .0) (omega (arith, r .high)) (chains-of-out k (u .0) (u .1)) (extends-edges P (u .0) (v .0) (f .1)) (extends-together P (u .0) (v .0) (f .1)) (extends-new P (u .0) (v .0) (f .1)))
+      (chain-cons (v .0) (u .0) (omega (arith, r .high)) (chains-of-out k (u .0) (u .1)) (extends-edges P (u .0) (v .0) (f .1)) (extends-same P (u .0) (v .0) (f .1)) (extends-new P (u .0) (v .0) (f .1)))
 
   pub chains-out : (w : List ℕ) → List·Memᴰ w (chains P) → Chain P w
   unfolding chains

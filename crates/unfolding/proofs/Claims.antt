@@ -1,6 +1,6 @@
 -- The proof of each claim.
 use Rattle.unfolding.specs.Claims.{EveryAtomInOne, NamedBySmallest, ChainsAreListed, TestIsPasses, DefaultPasses, UnfoldedHasNoLoop, WordsAreUnfolded, WordsHaveNoLoop, ClausesAreFaithful, LiteralsAreNumbered, WordsAreClauses}
-use Rattle.unfolding.proofs.Reach.{together-refl, component-of, component-only, component-together, component-smallest}
+use Rattle.unfolding.proofs.Reach.{same-refl, component-of, component-only, component-shared, component-smallest}
 use Rattle.unfolding.proofs.Chains.{chains-in, chains-out, passes-iff}
 use Rattle.unfolding.proofs.Default.{default-passes}
 use Rattle.unfolding.specs.Unfolded.{unfolded}
@@ -9,10 +9,10 @@ use Rattle.unfolding.proofs.Decoding.{words-unfolded, words-no-loop}
 use Rattle.unfolding.proofs.Theorem.{faithful, literals-numbered, words-clauses}
 
 pub every-atom-in-one : EveryAtomInOne
-every-atom-in-one P w a l = record { own = component-of P w a l; holds-it = together-refl P w a l; only = λ C K c. component-only P w C K a c }
+every-atom-in-one P w a l = record { own = component-of P w a l; holds-it = same-refl P w a l; only = λ C K c. component-only P w C K a c }
 
 pub named-by-smallest : NamedBySmallest
-named-by-smallest P w a l = record { inside = component-together P w a l; smallest = λ b t. component-smallest P w a b l t }
+named-by-smallest P w a l = record { inside = component-shared P w a l; smallest = λ b t. component-smallest P w a b l t }
 
 pub chains-are-listed : ChainsAreListed
 chains-are-listed P w c = (chains-out P w c, chains-in P c)

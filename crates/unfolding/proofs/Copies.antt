@@ -12,7 +12,7 @@ use Rattle.lists.proofs.Members.{all-at, all-intro, all-map, all-cong, any-at, 
 use Rattle.asp.specs.Program.{Body, Rule, Program, State, outside, holds, wellFormed}
 use Rattle.asp.proofs.Derived.{fires-in, fires-out, pos-below, rule-atoms}
 use Rattle.asp.proofs.Same.{holds-in, holds-pos, holds-neg}
-use Rattle.unfolding.specs.Graph.{together}
+use Rattle.unfolding.specs.Graph.{sameComponent}
 use Rattle.unfolding.specs.Unfolded.{Copy, last, copied, latest, usable, replaced, renamed, isKept, keptFor, variable, copiesFrom}
 use Rattle.unfolding.specs.Faithful.{Assignment}
 use Rattle.unfolding.proofs.Current.{reads, copyValue, current, current-here, current-other, reads-same, reads-other}
@@ -36,7 +36,7 @@ Follows P X M e past [] = Unit {0}
 Follows P X M e past (a ∷ s) =
     (M (variable P e a (member a s)) ≡ copyValue P X (current P X past) a) × Follows P X M (cond (member a s) (suc e) e) (a ∷ past) s
 
-module _ (P : Program) (wf : wellFormed P ≡ true) (M : Assignment) (X : State) (cuts : (b : ℕ) → b < P .atoms → M (last b) ≡ X b) where
+module _ (P : Program) (wf : wellFormed P ≡ true) (M : Assignment) (X : State) (projects : (b : ℕ) → b < P .atoms → M (last b) ≡ X b) where
   -- The copies made so far have the current values.
   abbrev pub Agrees : List Copy → Type 0
   Agrees past = (b : ℕ) → (copied past b && M (latest past b)) ≡ current P X (entries past) b
@@ -48,20 +48,20 @@ module _ (P : Program) (wf : wellFormed P ≡ true) (M : Assignment) (X : State)
     reads-in : (b : ℕ) → b < P .atoms → L b ≡ true → (usable P past a b ≡ true) × (M (replaced P past a b) ≡ true)
     unfolding L usable replaced
     reads-in b l r =
-        by-bool (together P a b)
+        by-bool (sameComponent P a b)
         (λ t. let c = agrees b ∙ (sym (reads-same P X (current P X (entries past)) a b t) ∙ r) in
         rw t (and-left (copied past b) (M (latest past b)) c, and-right (copied past b) (M (latest past b)) c))
-        (λ f. rw f (refl, cuts b l ∙ (sym (reads-other P X (current P X (entries past)) a b f) ∙ r)))
+        (λ f. rw f (refl, projects b l ∙ (sym (reads-other P X (current P X (entries past)) a b f) ∙ r)))
 
     reads-out : (b : ℕ) → b < P .atoms → usable P past a b ≡ true → M (replaced P past a b) ≡ true → L b ≡ true
     unfolding L usable replaced
     reads-out b l u v =
-        by-bool (together P a b)
+        by-bool (sameComponent P a b)
         (λ t. reads-same P X (current P X (entries past)) a b t ∙ (sym (agrees b) ∙ and-intro (rw t at u) (rw t at v)))
-        (λ f. reads-other P X (current P X (entries past)) a b f ∙ (sym (cuts b l) ∙ (rw f at v)))
+        (λ f. reads-other P X (current P X (entries past)) a b f ∙ (sym (projects b l) ∙ (rw f at v)))
 
     negatives : (r : Rule) → List·Memᴰ r (P .rules) → outside M (map last (r .body .neg)) ≡ outside X (r .body .neg)
-    negatives r m = outside-last M X (r .body .neg) (λ b k. cuts b (rule-atoms P wf r m b (inr k)))
+    negatives r m = outside-last M X (r .body .neg) (λ b k. projects b (rule-atoms P wf r m b (inr k)))
 
     kept-fires : any (holds M) (keptFor P past a) ≡ true → copyValue P X (current P X (entries past)) a ≡ true
     unfolding keptFor isKept renamed copyValue L

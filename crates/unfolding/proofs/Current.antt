@@ -8,13 +8,14 @@ use borrow.Author.Tests.{eqb-true, eqb-false, eq-eqb, ne-eqb}
 use lib.Dec.{eqb}
 use Rattle.lists.proofs.Bools.{by-bool}
 use Rattle.asp.specs.Program.{Program, State}
-use Rattle.asp.specs.LeastModel.{Closed, Inside}
+use Rattle.asp.specs.LeastModel.{Inside}
+use Rattle.asp.specs.Least.{Closed}
 use Rattle.asp.proofs.Derived.{next, next-mono}
-use Rattle.unfolding.specs.Graph.{together}
+use Rattle.unfolding.specs.Graph.{sameComponent}
 
 -- A rule for a reads the atoms of a's component in L, the others in X.
 unfoldable pub reads : Program → State → State → ℕ → State
-reads P X L a b = cond (together P a b) (L b) (X b)
+reads P X L a b = cond (sameComponent P a b) (L b) (X b)
 
 -- The value of a copy of a, where L are the values of the copies before it.
 unfoldable pub copyValue : Program → State → State → ℕ → Bool
@@ -34,11 +35,11 @@ module _ (P : Program) (X : State) where
   unfolding current
   current-other past a b ne = rw (ne-eqb a b ne) refl
 
-  pub reads-same : (L : State) (a b : ℕ) → together P a b ≡ true → reads P X L a b ≡ L b
+  pub reads-same : (L : State) (a b : ℕ) → sameComponent P a b ≡ true → reads P X L a b ≡ L b
   unfolding reads
   reads-same L a b t = rw t refl
 
-  pub reads-other : (L : State) (a b : ℕ) → together P a b ≡ false → reads P X L a b ≡ X b
+  pub reads-other : (L : State) (a b : ℕ) → sameComponent P a b ≡ false → reads P X L a b ≡ X b
   unfolding reads
   reads-other L a b f = rw f refl
 
@@ -54,4 +55,4 @@ module _ (P : Program) (X : State) where
     where
       inside : Inside (current P X past) X → Inside (reads P X (current P X past) a) X
       inside i x r =
-          by-bool (together P a x) (λ t. i x (sym (reads-same (current P X past) a x t) ∙ r)) (λ f. sym (reads-other (current P X past) a x f) ∙ r)
+          by-bool (sameComponent P a x) (λ t. i x (sym (reads-same (current P X past) a x t) ∙ r)) (λ f. sym (reads-other (current P X past) a x f) ∙ r)

@@ -16,7 +16,7 @@ use Rattle.asp.specs.Program.{Program, wellFormed}
 use Rattle.unfolding.specs.Graph.{component}
 use Rattle.unfolding.specs.Chain.{Passes}
 use Rattle.unfolding.specs.Default.{members, block, defaultSequence}
-use Rattle.unfolding.proofs.Reach.{component-same, component-together, together-below}
+use Rattle.unfolding.proofs.Reach.{component-same, component-shared, same-below}
 use Rattle.unfolding.proofs.Chains.{component-at}
 
 pub default-passes : (P : Program) → wellFormed P ≡ true → Passes P (defaultSequence P)
@@ -24,7 +24,7 @@ unfolding defaultSequence block members
 default-passes P wf [] C = absurd (C .some refl)
 default-passes P wf (a ∷ w) C =
     Sublistᴰ·trans (sublist-times (length (members P c)) (a ∷ w) (members P c) (nodup-le (a ∷ w) (members P c) (C .different) inside) inside)
-    (sublist-flatMap (block P) (range 0 (P .atoms)) c (range-in 0 (P .atoms) c (omega arith) (let l = together-below P wf a c here (component-together P wf a here) in omega arith)))
+    (sublist-flatMap (block P) (range 0 (P .atoms)) c (range-in 0 (P .atoms) c (omega arith) (let l = same-below P wf a c here (component-shared P wf a here) in omega arith)))
   where
     c : ℕ
     c = component P a

@@ -12,13 +12,13 @@ use Rattle.lists.proofs.Members.{below-in, all-at, all-intro, all-fails}
 use Rattle.lists.proofs.Nodup.{nodup-cons, nodup-reverse}
 use Rattle.lists.proofs.Sublists.{sublist-tail, mem-reverse}
 use Rattle.asp.specs.Program.{Program, State, wellFormed}
-use Rattle.asp.specs.LeastModel.{rounds, leastModel, Inside}
-use Rattle.asp.specs.Settled.{derived}
-use Rattle.asp.proofs.Rounds.{rounds-up, rounds-below}
+use Rattle.asp.specs.LeastModel.{iterate, leastModel, Inside}
+use Rattle.asp.specs.StableModel.{derived}
+use Rattle.asp.proofs.Rounds.{iterate-up, iterate-below}
 use Rattle.asp.proofs.Derived.{next, Fires, fires-in, fires-out, derives}
-use Rattle.unfolding.specs.Graph.{edge, together}
+use Rattle.unfolding.specs.Graph.{edge, sameComponent}
 use Rattle.unfolding.specs.Chain.{linked, Chain}
-use Rattle.unfolding.proofs.Reach.{edge-in, together-refl, together-sym, together-trans}
+use Rattle.unfolding.proofs.Reach.{edge-in, same-refl, same-sym, same-trans}
 use Rattle.unfolding.proofs.Current.{reads, copyValue, current, current-here, current-other, reads-same, reads-other}
 
 -- A chain read backwards: each atom has an edge from the next.
@@ -36,24 +36,24 @@ linked-back P a (b ∷ w) acc e l =
 module _ (P : Program) (wf : wellFormed P ≡ true) (X : State) where
   -- The atoms derived in k rounds.
   T : ℕ → State
-  T = rounds (next P X)
+  T = iterate (next P X)
 
   -- A chain of atoms of T k that ends in a and is not found in the past s; both stand latest first.
   record Missing (k a : ℕ) (s : List ℕ) : Type 0 where
     rest : List ℕ
     derivedIn : (x : ℕ) → List·Memᴰ x (a ∷ rest) → T k x ≡ true
     different : List·Nodup (a ∷ rest)
-    near : (x : ℕ) → List·Memᴰ x (a ∷ rest) → together P a x ≡ true
+    near : (x : ℕ) → List·Memᴰ x (a ∷ rest) → sameComponent P a x ≡ true
     links : linkedBack P (a ∷ rest) ≡ true
     missing : Sublistᴰ (a ∷ rest) s → ⊥
 
   below-T : (k x : ℕ) → T k x ≡ true → x < P .atoms
   unfolding T
-  below-T k x e = rounds-below (P .atoms) (next P X) (derives P wf X) k x e
+  below-T k x e = iterate-below (P .atoms) (next P X) (derives P wf X) k x e
 
   up-T : (k : ℕ) → Inside (T k) (T (suc k))
   unfolding T
-  up-T k = rounds-up (P .atoms) (next P X) (derives P wf X) k
+  up-T k = iterate-up (P .atoms) (next P X) (derives P wf X) k
 
   missing-chain : (k a : ℕ) (s : List ℕ) (M : Missing k a s) → Chain P (reverse (a ∷ M .rest))
   unfolding linked
@@ -62,9 +62,9 @@ module _ (P : Program) (wf : wellFormed P ≡ true) (X : State) where
         atoms = below-in (P .atoms) (reverse (a ∷ M .rest)) (λ x m. low x (mem-reverse (a ∷ M .rest) m));
         some = λ e. cons≢nil (sym (reverse-reverse (a ∷ M .rest)) ∙ ap reverse e);
         different = nodup-reverse (a ∷ M .rest) (M .different);
-        component = all-intro (λ x. all (together P x) (reverse (a ∷ M .rest))) (reverse (a ∷ M .rest)) (λ x m. all-intro (together P x) (reverse (a ∷ M .rest)) (λ y k.
+        component = all-intro (λ x. all (sameComponent P x) (reverse (a ∷ M .rest))) (reverse (a ∷ M .rest)) (λ x m. all-intro (sameComponent P x) (reverse (a ∷ M .rest)) (λ y k.
             let mx = mem-reverse (a ∷ M .rest) m in
-            together-trans P wf x a y (low x mx) (together-sym P wf a x (M .near x mx)) (M .near y (mem-reverse (a ∷ M .rest) k))));
+            same-trans P wf x a y (low x mx) (same-sym P wf a x (M .near x mx)) (M .near y (mem-reverse (a ∷ M .rest) k))));
         links = linked-back P a (M .rest) [] (M .links) refl;
       }
     where
@@ -86,20 +86,20 @@ module _ (P : Program) (wf : wellFormed P ≡ true) (X : State) where
             rest = [];
             derivedIn = λ x m. subst (λ y. T (suc k) y ≡ true) (sym (List·Memᴰ·eq-of-singleton m)) now;
             different = nodup-cons (λ m. List·Memᴰ·not-nil m) Pairwise·nil;
-            near = λ x m. subst (λ y. together P a y ≡ true) (sym (List·Memᴰ·eq-of-singleton m)) (together-refl P wf a low);
+            near = λ x m. subst (λ y. sameComponent P a y ≡ true) (sym (List·Memᴰ·eq-of-singleton m)) (same-refl P wf a low);
             links = refl;
             missing = gone;
           }
 
       -- The missing chain of a positive atom b, with a behind it.
-      longer : (b : ℕ) (past : List ℕ) → List·Memᴰ b (F .rule .body .pos) → together P a b ≡ true → Missing k b past → Missing (suc k) a (a ∷ past)
+      longer : (b : ℕ) (past : List ℕ) → List·Memᴰ b (F .rule .body .pos) → sameComponent P a b ≡ true → Missing k b past → Missing (suc k) a (a ∷ past)
       unfolding linkedBack
       longer b past m t M =
           record {
             rest = b ∷ M .rest;
             derivedIn = λ x n. ⊎-elim (λ e. subst (λ y. T (suc k) y ≡ true) (sym e) now) (λ j. up-T k x (M .derivedIn x j)) (List·Memᴰ·cases-cons n);
             different = nodup-cons (λ n. true-false (M .derivedIn a n) new) (M .different);
-            near = λ x n. ⊎-elim (λ e. subst (λ y. together P a y ≡ true) (sym e) (together-refl P wf a low)) (λ j. together-trans P wf a b x low t (M .near x j)) (List·Memᴰ·cases-cons n);
+            near = λ x n. ⊎-elim (λ e. subst (λ y. sameComponent P a y ≡ true) (sym e) (same-refl P wf a low)) (λ j. same-trans P wf a b x low t (M .near x j)) (List·Memᴰ·cases-cons n);
             links = and-intro (edge-in P (F .rule) (F .stands) b a (F .head) m) (M .links);
             missing = λ s. ⊎-elim (λ u. M .missing (sublist-tail u)) (λ u. M .missing (u .1)) (Sublistᴰ·cases-cons-cons s);
           }
@@ -112,7 +112,7 @@ module _ (P : Program) (wf : wellFormed P ≡ true) (X : State) where
           let v = all-fails L (F .rule .body .pos) (is-false (λ t. true-false (fires-in (P .rules) X L a (record { rule = F .rule; stands = F .stands; head = F .head; negatives = F .negatives; positives = t })) f)) in
           let b = v .0 in
           let t = all-at (T k) (F .rule .body .pos) (F .positives) b (v .1) in
-          by-bool (together P a b)
+          by-bool (sameComponent P a b)
           (λ c. longer b past (v .1) c (miss b t past (sym (reads-same P X (current P X past) a b c) ∙ v .2)))
           (λ c. absurd (true-false (over b (in-state k miss b t)) (sym (reads-other P X (current P X past) a b c) ∙ v .2)))
 
@@ -135,7 +135,7 @@ module _ (P : Program) (wf : wellFormed P ≡ true) (X : State) where
               }
 
     miss : (k a : ℕ) → T k a ≡ true → (s : List ℕ) → current P X s a ≡ false → Missing k a s
-    unfolding T rounds
+    unfolding T iterate
     miss zero a t s f = absurd (false≢true t)
     miss (suc k) a t s f =
         by-bool (T k a) (λ old. weaken (miss k a old s f))

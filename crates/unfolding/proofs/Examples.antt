@@ -7,10 +7,10 @@ use Prim.Native.Nat.{ℕ}
 use lib.ListN.{length}
 use Rattle.lists.specs.Lists.{below, all, any, filter, times, member, range}
 use Rattle.asp.specs.Program.{Rule, Program, State, outside, holds, bodyBelow, ruleBelow, wellFormed}
-use Rattle.asp.specs.LeastModel.{consequences, rounds, leastModel}
-use Rattle.asp.specs.Settled.{definite, reduct, lawful, derived, isSettled}
-use Rattle.asp.specs.Count.{Verdict, empty, with, states, settledStates, count, verdict}
-use Rattle.unfolding.specs.Graph.{edge, onward, reach, together, first, component}
+use Rattle.asp.specs.LeastModel.{consequences, iterate, leastModel}
+use Rattle.asp.specs.StableModel.{definite, reduct, lawful, derived, isStable}
+use Rattle.asp.specs.Count.{Verdict, empty, with, states, stableModels, count, verdict}
+use Rattle.unfolding.specs.Graph.{edge, onward, reach, sameComponent, first, component}
 use Rattle.unfolding.specs.Chain.{linked, extends, longer, chainsOf, chains, found, passes}
 use Rattle.unfolding.specs.Default.{members, block, defaultSequence}
 use Rattle.unfolding.specs.Unfolded.{last, copied, latest, usable, replaced, renamed, isKept, keptFor, variable, copiesFrom, unfolded, bodyWords, copyWords, words}
@@ -28,11 +28,11 @@ sequenceA = 0 ∷ 1 ∷ 0 ∷ 2 ∷ []
 
 -- To unfold these is to unfold every definition that the examples compute with.
 answer-sets : Unit {0}
-unfolding rule sheetA all any filter range outside holds below bodyBelow ruleBelow wellFormed consequences rounds leastModel definite reduct lawful derived isSettled empty with states settledStates count verdict
+unfolding rule sheetA all any filter range outside holds below bodyBelow ruleBelow wellFormed consequences iterate leastModel definite reduct lawful derived isStable empty with states stableModels count verdict
 answer-sets = tt
 
 graph : Unit {0}
-unfolding rule sheetA sequenceA all any filter times member range flatMap rounds edge onward reach together first component linked extends longer chainsOf chains found passes members block defaultSequence
+unfolding rule sheetA sequenceA all any filter times member range flatMap iterate edge onward reach sameComponent first component linked extends longer chainsOf chains found passes members block defaultSequence
 graph = tt
 
 copies : Unit {0}
@@ -44,13 +44,13 @@ formed : wellFormed sheetA ≡ true
 unfolding answer-sets
 formed = refl
 
--- The settled states are {0, 1} and {2}: split.
+-- The stable models are {0, 1} and {2}: split.
 shown : State → List Bool
 shown X = map X (0 ∷ 1 ∷ 2 ∷ [])
 
-settled : map shown (settledStates sheetA) ≡ (true ∷ true ∷ false ∷ []) ∷ (false ∷ false ∷ true ∷ []) ∷ []
+stable : map shown (stableModels sheetA) ≡ (true ∷ true ∷ false ∷ []) ∷ (false ∷ false ∷ true ∷ []) ∷ []
 unfolding answer-sets shown
-settled = refl
+stable = refl
 
 counted : count sheetA ≡ 2
 unfolding answer-sets

@@ -12,10 +12,10 @@ use Rattle.lists.proofs.Bools.{by-bool, bool-ext}
 use Rattle.lists.proofs.Members.{all-at, all-intro}
 use Rattle.asp.specs.Program.{Program, State, wellFormed}
 use Rattle.asp.specs.LeastModel.{Inside}
-use Rattle.asp.specs.Settled.{derived, Settled}
+use Rattle.asp.specs.StableModel.{derived, StableModel}
 use Rattle.asp.proofs.Derived.{fires-in, fires-out, derived-least, head-below, pos-below}
-use Rattle.asp.proofs.Same.{settled-closed}
-use Rattle.unfolding.specs.Graph.{together}
+use Rattle.asp.proofs.Same.{stable-closed}
+use Rattle.unfolding.specs.Graph.{sameComponent}
 use Rattle.unfolding.specs.Chain.{Chain}
 use Rattle.unfolding.proofs.Reach.{edge-in}
 use Rattle.unfolding.proofs.Current.{reads, copyValue, current, current-here, current-other, reads-same, reads-other, sound}
@@ -46,7 +46,7 @@ module _ (P : Program) (wf : wellFormed P ≡ true) (X : State) where
               negatives = F .negatives;
               positives = all-intro (derived P X) (F .rule .body .pos) (λ b k.
                   let r = all-at L (F .rule .body .pos) (F .positives) b k in
-                  by-bool (together P x b)
+                  by-bool (sameComponent P x b)
                   (λ t. earlier b (subst (λ y. y < suc m) (ancestors-same P wf x b here t) low) (sym (reads-same P X (current P X past) x b t) ∙ r))
                   (λ f. fewer b (let less = ancestors-less P wf b x (pos-below P wf (F .rule) (F .stands) b k) (edge-in P (F .rule) (F .stands) b x (F .head) k) f in omega arith)
                   (sym (reads-other P X (current P X past) x b f) ∙ r)));
@@ -66,6 +66,6 @@ module _ (P : Program) (wf : wellFormed P ≡ true) (S : List ℕ) (pass : (w : 
   current-stable e a =
       bool-ext (grounded P wf X S (λ b x. sym (e b) ∙ x) a) (λ d. e a ∙ complete P wf X S pass (λ b c. e b ∙ c) a d)
 
-  pub settled-current : Settled P X → (a : ℕ) → X a ≡ current P X S a
-  settled-current s a =
-      bool-ext (λ x. complete P wf X S pass (sound P X (settled-closed P wf X s) S) a (sym (s .stable a) ∙ x)) (sound P X (settled-closed P wf X s) S a)
+  pub stable-current : StableModel P X → (a : ℕ) → X a ≡ current P X S a
+  stable-current s a =
+      bool-ext (λ x. complete P wf X S pass (sound P X (stable-closed P wf X s) S) a (sym (s .fixpoint a) ∙ x)) (sound P X (stable-closed P wf X s) S a)

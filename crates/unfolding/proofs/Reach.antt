@@ -12,10 +12,12 @@ use Rattle.lists.specs.Lists.{all, any, member, range}
 use Rattle.lists.proofs.Bools.{by-bool, true-false, bool-ext, and-intro, and-left, and-right, or-cases, or-left, or-right}
 use Rattle.lists.proofs.Members.{any-at, any-intro, member-in, range-in, range-out}
 use Rattle.asp.specs.Program.{Rule, Program, State, wellFormed}
-use Rattle.asp.specs.LeastModel.{Inside, Least}
-use Rattle.asp.proofs.Rounds.{rounds-least}
+use Rattle.asp.specs.LeastModel.{Inside}
+use Rattle.asp.specs.Least.{Least}
+use Rattle.asp.proofs.Rounds.{iterate-least}
 use Rattle.asp.proofs.Derived.{head-below}
-use Rattle.unfolding.specs.Graph.{edge, onward, reach, Component, together, first, component}
+use Rattle.unfolding.specs.Graph.{edge, onward, reach, sameComponent, first, component}
+use Rattle.unfolding.specs.Component.{Component}
 
 -- An edge comes from a rule.
 pub edge-in : (P : Program) (r : Rule) → List·Memᴰ r (P .rules) → (b a : ℕ) → r .head ≡ a → List·Memᴰ b (r .body .pos) → edge P b a ≡ true
@@ -54,7 +56,7 @@ module _ (P : Program) (w : wellFormed P ≡ true) where
     reach-least : Least (onward P start) (reach P start)
     unfolding reach
     reach-least =
-        rounds-least (P .atoms) (onward P start)
+        iterate-least (P .atoms) (onward P start)
         (record {
           mono = λ X Y i a e. onward-cases X a e (onward-start Y a) (λ b l x k. onward-edge Y b a l (i b x) k);
           bounded = λ X a e. onward-cases X a e (λ q. subst (λ x. x < P .atoms) q low) (λ b l x k. edge-below b a k);
@@ -78,50 +80,50 @@ module _ (P : Program) (w : wellFormed P ≡ true) where
   reach-trans a b c l r q = reach-induction b (reach-below a l b r) (reach P a) r (λ d e _ y k. reach-edge a l d e y k) c q
 
   -- Atoms of one component.
-  pub together-in : (a b : ℕ) → reach P a b ≡ true → reach P b a ≡ true → together P a b ≡ true
-  unfolding together
-  together-in a b r q = and-intro r q
+  pub same-in : (a b : ℕ) → reach P a b ≡ true → reach P b a ≡ true → sameComponent P a b ≡ true
+  unfolding sameComponent
+  same-in a b r q = and-intro r q
 
-  pub together-there : (a b : ℕ) → together P a b ≡ true → reach P a b ≡ true
-  unfolding together
-  together-there a b t = and-left (reach P a b) (reach P b a) t
+  pub same-there : (a b : ℕ) → sameComponent P a b ≡ true → reach P a b ≡ true
+  unfolding sameComponent
+  same-there a b t = and-left (reach P a b) (reach P b a) t
 
-  pub together-back : (a b : ℕ) → together P a b ≡ true → reach P b a ≡ true
-  unfolding together
-  together-back a b t = and-right (reach P a b) (reach P b a) t
+  pub same-back : (a b : ℕ) → sameComponent P a b ≡ true → reach P b a ≡ true
+  unfolding sameComponent
+  same-back a b t = and-right (reach P a b) (reach P b a) t
 
-  pub together-refl : (a : ℕ) → a < P .atoms → together P a a ≡ true
-  together-refl a l = together-in a a (reach-refl a l) (reach-refl a l)
+  pub same-refl : (a : ℕ) → a < P .atoms → sameComponent P a a ≡ true
+  same-refl a l = same-in a a (reach-refl a l) (reach-refl a l)
 
-  pub together-sym : (a b : ℕ) → together P a b ≡ true → together P b a ≡ true
-  together-sym a b t = together-in b a (together-back a b t) (together-there a b t)
+  pub same-sym : (a b : ℕ) → sameComponent P a b ≡ true → sameComponent P b a ≡ true
+  same-sym a b t = same-in b a (same-back a b t) (same-there a b t)
 
-  pub together-below : (a b : ℕ) → a < P .atoms → together P a b ≡ true → b < P .atoms
-  together-below a b l t = reach-below a l b (together-there a b t)
+  pub same-below : (a b : ℕ) → a < P .atoms → sameComponent P a b ≡ true → b < P .atoms
+  same-below a b l t = reach-below a l b (same-there a b t)
 
-  pub together-trans : (a b c : ℕ) → a < P .atoms → together P a b ≡ true → together P b c ≡ true → together P a c ≡ true
-  together-trans a b c l t u =
-      let m = together-below a b l t in
-      together-in a c (reach-trans a b c l (together-there a b t) (together-there b c u))
-      (reach-trans c b a (together-below b c m u) (together-back b c u) (together-back a b t))
+  pub same-trans : (a b c : ℕ) → a < P .atoms → sameComponent P a b ≡ true → sameComponent P b c ≡ true → sameComponent P a c ≡ true
+  same-trans a b c l t u =
+      let m = same-below a b l t in
+      same-in a c (reach-trans a b c l (same-there a b t) (same-there b c u))
+      (reach-trans c b a (same-below b c m u) (same-back b c u) (same-back a b t))
 
   -- Every atom is in just one component: the atoms that it reaches and that reach it.
-  pub component-of : (a : ℕ) → a < P .atoms → Component P (together P a)
+  pub component-of : (a : ℕ) → a < P .atoms → Component P (sameComponent P a)
   component-of a l =
       record {
-        atoms = λ b t. together-below a b l t;
-        mutual-reach = λ b c t u. together-there b c (together-trans b a c (together-below a b l t) (together-sym a b t) u);
-        largest = λ D low all i b d. together-in a b (all a b (i a (together-refl a l)) d) (all b a d (i a (together-refl a l)));
+        atoms = λ b t. same-below a b l t;
+        mutual-reach = λ b c t u. same-there b c (same-trans b a c (same-below a b l t) (same-sym a b t) u);
+        largest = λ D low all i b d. same-in a b (all a b (i a (same-refl a l)) d) (all b a d (i a (same-refl a l)));
       }
 
-  pub component-only : (C : State) → Component P C → (a : ℕ) → C a ≡ true → C ≡ together P a
-  component-only C K a c = fun-ext (λ b. bool-ext (inside b) (K .largest (together P a) (own .atoms) (own .mutual-reach) inside b))
+  pub component-only : (C : State) → Component P C → (a : ℕ) → C a ≡ true → C ≡ sameComponent P a
+  component-only C K a c = fun-ext (λ b. bool-ext (inside b) (K .largest (sameComponent P a) (own .atoms) (own .mutual-reach) inside b))
     where
-      own : Component P (together P a)
+      own : Component P (sameComponent P a)
       own = component-of a (K .atoms a c)
 
-      inside : (b : ℕ) → C b ≡ true → together P a b ≡ true
-      inside b d = together-in a b (K .mutual-reach a b c d) (K .mutual-reach b a d c)
+      inside : (b : ℕ) → C b ≡ true → sameComponent P a b ≡ true
+      inside b d = same-in a b (K .mutual-reach a b c d) (K .mutual-reach b a d c)
 
 -- The first number of a rising list.
 first-holds : (p : ℕ → Bool) (d : ℕ) (l : List ℕ) (x : ℕ) → List·Memᴰ x l → p x ≡ true → p (first p d l) ≡ true
@@ -140,20 +142,20 @@ first-le p d a (suc k) x l h e =
 
 module _ (P : Program) (w : wellFormed P ≡ true) where
   -- The name of an atom's component is its smallest atom.
-  pub component-together : (a : ℕ) → a < P .atoms → together P a (component P a) ≡ true
+  pub component-shared : (a : ℕ) → a < P .atoms → sameComponent P a (component P a) ≡ true
   unfolding component
-  component-together a l = first-holds (together P a) a (range 0 (P .atoms)) a (range-in 0 (P .atoms) a (omega arith) (omega arith)) (together-refl P w a l)
+  component-shared a l = first-holds (sameComponent P a) a (range 0 (P .atoms)) a (range-in 0 (P .atoms) a (omega arith) (omega arith)) (same-refl P w a l)
 
-  pub component-smallest : (a b : ℕ) → a < P .atoms → together P a b ≡ true → component P a ≤ b
+  pub component-smallest : (a b : ℕ) → a < P .atoms → sameComponent P a b ≡ true → component P a ≤ b
   unfolding component
-  component-smallest a b l t = let m = together-below P w a b l t in first-le (together P a) a 0 (P .atoms) b (omega arith) (omega arith) t
+  component-smallest a b l t = let m = same-below P w a b l t in first-le (sameComponent P a) a 0 (P .atoms) b (omega arith) (omega arith) t
 
-  pub component-same : (a b : ℕ) → a < P .atoms → together P a b ≡ true → component P a ≡ component P b
+  pub component-same : (a b : ℕ) → a < P .atoms → sameComponent P a b ≡ true → component P a ≡ component P b
   component-same a b l t =
-      let m = together-below P w a b l t in
-      le-antisymm (component-smallest a (component P b) l (together-trans P w a b (component P b) l t (component-together b m)))
-      (component-smallest b (component P a) m (together-trans P w b a (component P a) m (together-sym P w a b t) (component-together a l)))
+      let m = same-below P w a b l t in
+      le-antisymm (component-smallest a (component P b) l (same-trans P w a b (component P b) l t (component-shared b m)))
+      (component-smallest b (component P a) m (same-trans P w b a (component P a) m (same-sym P w a b t) (component-shared a l)))
 
-  pub component-joins : (a b : ℕ) → a < P .atoms → b < P .atoms → component P a ≡ component P b → together P a b ≡ true
+  pub component-joins : (a b : ℕ) → a < P .atoms → b < P .atoms → component P a ≡ component P b → sameComponent P a b ≡ true
   component-joins a b l m e =
-      together-trans P w a (component P a) b l (component-together a l) (subst (λ c. together P c b ≡ true) (sym e) (together-sym P w b (component P b) (component-together b m)))
+      same-trans P w a (component P a) b l (component-shared a l) (subst (λ c. sameComponent P c b ≡ true) (sym e) (same-sym P w b (component P b) (component-shared b m)))

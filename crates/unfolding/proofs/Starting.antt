@@ -9,9 +9,10 @@ use Rattle.lists.proofs.Members.{all-intro}
 use Rattle.lists.proofs.Nodup.{nodup-head}
 use Rattle.lists.proofs.Sublists.{sublist-tail}
 use Rattle.asp.specs.Program.{Program, wellFormed}
-use Rattle.unfolding.specs.Graph.{edge, together}
-use Rattle.unfolding.specs.Chain.{linked, Started}
-use Rattle.unfolding.proofs.Reach.{together-trans}
+use Rattle.unfolding.specs.Graph.{edge, sameComponent}
+use Rattle.unfolding.specs.Chain.{linked}
+use Rattle.unfolding.specs.inner.Started.{Started}
+use Rattle.unfolding.proofs.Reach.{same-trans}
 use Rattle.unfolding.proofs.Chains.{component-at, chain-tail, chain-one, chain-cons}
 
 module _ (P : Program) (wf : wellFormed P ≡ true) where
@@ -27,16 +28,16 @@ module _ (P : Program) (wf : wellFormed P ≡ true) where
 
   -- The atom's own entry: what follows it in its chains, itself left out, must be found behind the entry.
   module _ (x : ℕ) (s : List ℕ) (X Y : ℕ → Type 0) where
-    pub started-onward : x < P .atoms → X x → ((b : ℕ) → Y b → X b × (b ≡ x → ⊥)) → Started P (x ∷ s) X x → (b : ℕ) → edge P x b ≡ true → together P x b ≡ true → Started P s Y b
+    pub started-onward : x < P .atoms → X x → ((b : ℕ) → Y b → X b × (b ≡ x → ⊥)) → Started P (x ∷ s) X x → (b : ℕ) → edge P x b ≡ true → sameComponent P x b ≡ true → Started P s Y b
     unfolding linked
     started-onward l x-in h D b e t w C i =
         let longer = chain-cons P wf x (b ∷ w) l C (and-intro e (C .links))
-        (all-intro (together P x) (b ∷ w) (λ y m. together-trans P wf x b y l t (component-at P (b ∷ w) C b y (List·Memᴰ·head refl) m)))
+        (all-intro (sameComponent P x) (b ∷ w) (λ y m. same-trans P wf x b y l t (component-at P (b ∷ w) C b y (List·Memᴰ·head refl) m)))
         (λ m. h x (i x m) .1 refl) in
         let found = D (b ∷ w) longer (λ y m. ⊎-elim (λ q. subst X (sym q) x-in) (λ k. h y (i y k) .0) (List·Memᴰ·cases-cons m)) in
         ⊎-elim (λ k. sublist-tail k) (λ k. k .1) (Sublistᴰ·cases-cons-cons found)
 
-    pub started-own : ((b : ℕ) → X b → (b ≡ x → ⊥) → Y b) → ((b : ℕ) → edge P x b ≡ true → together P x b ≡ true → Y b → Started P s Y b) → Started P (x ∷ s) X x
+    pub started-own : ((b : ℕ) → X b → (b ≡ x → ⊥) → Y b) → ((b : ℕ) → edge P x b ≡ true → sameComponent P x b ≡ true → Y b → Started P s Y b) → Started P (x ∷ s) X x
     unfolding linked
     started-own back h [] C i = Sublistᴰ·cons-cons refl (Sublistᴰ·nil-sublist s)
     started-own back h (b ∷ w) C i =

@@ -1,4 +1,4 @@
--- Demand 3: the models of the clauses, cut to the atoms, are exactly the settled states, one model for each.
+-- Demand 3: the models of the clauses, cut to the atoms, are exactly the stable models, one model for each.
 use mathlib.Core.Bool.{Bool, true, not, _&&_, cond, false≢true}
 use mathlib.Core.List.{List, [], _∷_, map, reverse, List·Memᴰ, List·Memᴰ·head, List·Memᴰ·tail, List·Memᴰ·not-nil, List·Memᴰ·cases-cons, Sublistᴰ}
 use mathlib.Core.Logic.{inl, inr, ⊎-elim}
@@ -13,15 +13,15 @@ use Rattle.lists.proofs.Bools.{by-bool, bool-ext, and-left}
 use Rattle.lists.proofs.Members.{below-at, all-map, all-cong, range-out}
 use Rattle.lists.proofs.Sublists.{mem-sublist, mem-reverse, sublist-reversed}
 use Rattle.asp.specs.Program.{Body, Program, State, outside, holds, wellFormed}
-use Rattle.asp.specs.Settled.{lawful, Settled}
+use Rattle.asp.specs.StableModel.{lawful, StableModel}
 use Rattle.asp.proofs.Derived.{constraint-atoms}
 use Rattle.unfolding.specs.Chain.{Chain, Passes}
 use Rattle.unfolding.specs.Unfolded.{Copy, Unfolded, last, renamed, keptFor, variable, copiesFrom, unfolded}
 use Rattle.unfolding.specs.Clauses.{Literal, variableOf, Clause, variables, signedWords, readWords}
-use Rattle.unfolding.specs.Faithful.{Assignment, cut, clausesOf, variablesOf, Faithful}
+use Rattle.unfolding.specs.Faithful.{Assignment, projection, clausesOf, variablesOf, Faithful}
 use Rattle.unfolding.proofs.Chains.{chain-one}
 use Rattle.unfolding.proofs.Current.{current, current-other}
-use Rattle.unfolding.proofs.Grounded.{current-stable, settled-current}
+use Rattle.unfolding.proofs.Grounded.{current-stable, stable-current}
 use Rattle.unfolding.proofs.Copies.{Follows, outside-last, solves-follows, follows-solves, agrees-none, last-value}
 use Rattle.unfolding.proofs.Numbering.{Entries, copies-length, atoms-fit, variable-range, all-variables, assign, assign-follows}
 use Rattle.unfolding.proofs.Completion.{Models, models-in, models-out, extend, extend-agrees, extend-models, models-agree, bodies, Names, Agree}
@@ -84,37 +84,37 @@ module _ (P : Program) (wf : wellFormed P ≡ true) where
     unfolding U unfolded
     named = bodies-name P wf (length (copiesFrom P 0 [] s)) fits s numbered
 
-    cut-at : (M : Assignment) (b : ℕ) → b < P .atoms → M (last b) ≡ cut (P .atoms) M b
-    unfolding cut last
-    cut-at M b l = rw (lt-ltb b (P .atoms) l) refl
+    projection-at : (M : Assignment) (b : ℕ) → b < P .atoms → M (last b) ≡ projection (P .atoms) M b
+    unfolding projection last
+    projection-at M b l = rw (lt-ltb b (P .atoms) l) refl
 
-    cut-below : (M : Assignment) (b : ℕ) → cut (P .atoms) M b ≡ true → b < P .atoms
-    unfolding cut
-    cut-below M b e = ltb-true b (P .atoms) (and-left (ltb b (P .atoms)) (M (suc b)) e)
+    projection-below : (M : Assignment) (b : ℕ) → projection (P .atoms) M b ≡ true → b < P .atoms
+    unfolding projection
+    projection-below M b e = ltb-true b (P .atoms) (and-left (ltb b (P .atoms)) (M (suc b)) e)
 
     -- A model gives each copy the value that its cut says.
-    model-follows : (M : Assignment) → Models M U → Follows P (cut (P .atoms) M) M 0 [] s
+    model-follows : (M : Assignment) → Models M U → Follows P (projection (P .atoms) M) M 0 [] s
     unfolding U unfolded
-    model-follows M m = solves-follows P wf M (cut (P .atoms) M) (cut-at M) s 0 [] (agrees-none P wf M (cut (P .atoms) M) (cut-at M)) (m .solves)
+    model-follows M m = solves-follows P wf M (projection (P .atoms) M) (projection-at M) s 0 [] (agrees-none P wf M (projection (P .atoms) M) (projection-at M)) (m .solves)
 
-    cut-current : (M : Assignment) → Models M U → (a : ℕ) → cut (P .atoms) M a ≡ current P (cut (P .atoms) M) (reverse s) a
-    cut-current M m a =
-        bool-ext (λ e. sym (here (cut-below M a e)) ∙ e) (λ e. here (low a (mem-reverse s (current-stands P (cut (P .atoms) M) (reverse s) a e))) ∙ e)
+    projection-current : (M : Assignment) → Models M U → (a : ℕ) → projection (P .atoms) M a ≡ current P (projection (P .atoms) M) (reverse s) a
+    projection-current M m a =
+        bool-ext (λ e. sym (here (projection-below M a e)) ∙ e) (λ e. here (low a (mem-reverse s (current-stands P (projection (P .atoms) M) (reverse s) a e))) ∙ e)
       where
-        here : a < P .atoms → cut (P .atoms) M a ≡ current P (cut (P .atoms) M) (reverse s) a
-        here l = sym (cut-at M a l) ∙ last-value P (cut (P .atoms) M) M s 0 [] (model-follows M m) a (full a l)
+        here : a < P .atoms → projection (P .atoms) M a ≡ current P (projection (P .atoms) M) (reverse s) a
+        here l = sym (projection-at M a l) ∙ last-value P (projection (P .atoms) M) M s 0 [] (model-follows M m) a (full a l)
 
-    model-settled : (M : Assignment) → Models M U → Settled P (cut (P .atoms) M)
+    model-stable : (M : Assignment) → Models M U → StableModel P (projection (P .atoms) M)
     unfolding U
-    model-settled M m =
+    model-stable M m =
         record {
-          within = cut-below M;
-          stable = current-stable P wf (reverse s) pass (cut (P .atoms) M) (cut-current M m);
-          obeys = sym (constraints-same M (cut (P .atoms) M) (cut-at M) s) ∙ m .lawful;
+          within = projection-below M;
+          fixpoint = current-stable P wf (reverse s) pass (projection (P .atoms) M) (projection-current M m);
+          obeys = sym (constraints-same M (projection (P .atoms) M) (projection-at M) s) ∙ m .lawful;
         }
 
-    -- A settled state gives each copy a value.
-    module _ (X : State) (S : Settled P X) where
+    -- A stable model gives each copy a value.
+    module _ (X : State) (S : StableModel P X) where
       valuation : Assignment
       valuation = assign P X 0 [] s
 
@@ -123,7 +123,7 @@ module _ (P : Program) (wf : wellFormed P ≡ true) where
       valuation-follows = assign-follows P X valuation s low 0 [] (λ v _. refl)
 
       valuation-last : (b : ℕ) → b < P .atoms → valuation (last b) ≡ X b
-      valuation-last b l = last-value P X valuation s 0 [] valuation-follows b (full b l) ∙ sym (settled-current P wf (reverse s) pass X S b)
+      valuation-last b l = last-value P X valuation s 0 [] valuation-follows b (full b l) ∙ sym (stable-current P wf (reverse s) pass X S b)
 
       lifted : Assignment
       lifted = extend (length (U .copies)) (bodies U) valuation
@@ -135,28 +135,28 @@ module _ (P : Program) (wf : wellFormed P ≡ true) where
           (follows-solves P wf valuation X valuation-last s 0 [] (agrees-none P wf valuation X valuation-last) valuation-follows)
           (constraints-same valuation X valuation-last s ∙ S .obeys)
 
-      lifted-cut : cut (P .atoms) lifted ≡ X
+      lifted-projection : projection (P .atoms) lifted ≡ X
       unfolding lifted U unfolded last
-      lifted-cut =
-          fun-ext (λ a. bool-ext (λ e. sym (here a (cut-below lifted a e)) ∙ e) (λ e. here a (S .within a e) ∙ e))
+      lifted-projection =
+          fun-ext (λ a. bool-ext (λ e. sym (here a (projection-below lifted a e)) ∙ e) (λ e. here a (S .within a e) ∙ e))
         where
-          here : (a : ℕ) → a < P .atoms → cut (P .atoms) lifted a ≡ X a
-          here a l = sym (cut-at lifted a l) ∙ (extend-agrees (length (U .copies)) (bodies U) valuation (last a) (omega arith) (let h = fits in omega arith) ∙ valuation-last a l)
+          here : (a : ℕ) → a < P .atoms → projection (P .atoms) lifted a ≡ X a
+          here a l = sym (projection-at lifted a l) ∙ (extend-agrees (length (U .copies)) (bodies U) valuation (last a) (omega arith) (let h = fits in omega arith) ∙ valuation-last a l)
 
-    models-one : (M M′ : Assignment) → Models M U → Models M′ U → cut (P .atoms) M ≡ cut (P .atoms) M′ → Agree (variables U) M M′
+    models-one : (M M′ : Assignment) → Models M U → Models M′ U → projection (P .atoms) M ≡ projection (P .atoms) M′ → Agree (variables U) M M′
     unfolding U unfolded
     models-one M M′ m m′ e =
         models-agree U named M M′ m m′ (λ v l h.
         let c = all-variables P s low full v l (let q = copies-length P s 0 [] in omega arith) in
         subst (λ x. M x ≡ M′ x) (c .2)
-        (follows-agree P (cut (P .atoms) M) M M′ s 0 [] [] (model-follows M m) (subst (λ X. Follows P X M′ 0 [] s) (sym e) (model-follows M′ m′)) (c .0) (c .1)))
+        (follows-agree P (projection (P .atoms) M) M M′ s 0 [] [] (model-follows M m) (subst (λ X. Follows P X M′ 0 [] s) (sym e) (model-follows M′ m′)) (c .0) (c .1)))
 
     pub faithful : Faithful P s
     unfolding clausesOf variablesOf U
     faithful =
         record {
-          cuts = λ M e. model-settled M (models-out M U e);
-          lifts = λ X S. (lifted X S, models-in (lifted X S) U (lifted-models X S), lifted-cut X S);
+          projects = λ M e. model-stable M (models-out M U e);
+          lifts = λ X S. (lifted X S, models-in (lifted X S) U (lifted-models X S), lifted-projection X S);
           one-each = λ M M′ e e′ q. models-one M M′ (models-out M U e) (models-out M′ U e′) q;
         }
 

@@ -6,7 +6,8 @@ use mathlib.Core.Path.{_≡_}
 use Prim.Native.Nat.{ℕ, _≤_, _<_}
 use Rattle.lists.specs.Lists.{below}
 use Rattle.asp.specs.Program.{Program, State, wellFormed}
-use Rattle.unfolding.specs.Graph.{Component, together, component}
+use Rattle.unfolding.specs.Graph.{sameComponent, component}
+use Rattle.unfolding.specs.Component.{Component}
 use Rattle.unfolding.specs.Chain.{Chain, Passes, chains, passes}
 use Rattle.unfolding.specs.Default.{defaultSequence}
 use Rattle.unfolding.specs.Unfolded.{NoPositiveLoop, unfolded, words}
@@ -16,17 +17,17 @@ use Rattle.unfolding.specs.Faithful.{clausesOf, variablesOf, Faithful}
 
 -- Every atom is in just one component.
 pub record OneComponent (P : Program) (a : ℕ) : Type 0 where
-  pub own : Component P (together P a)
-  pub holds-it : together P a a ≡ true
-  pub only : (C : State) → Component P C → C a ≡ true → C ≡ together P a
+  pub own : Component P (sameComponent P a)
+  pub holds-it : sameComponent P a a ≡ true
+  pub only : (C : State) → Component P C → C a ≡ true → C ≡ sameComponent P a
 
 abbrev pub EveryAtomInOne : Type 0
 EveryAtomInOne = (P : Program) → wellFormed P ≡ true → (a : ℕ) → a < P .atoms → OneComponent P a
 
 -- A component is named by its smallest atom.
 pub record Smallest (P : Program) (a : ℕ) : Type 0 where
-  pub inside : together P a (component P a) ≡ true
-  pub smallest : (b : ℕ) → together P a b ≡ true → component P a ≤ b
+  pub inside : sameComponent P a (component P a) ≡ true
+  pub smallest : (b : ℕ) → sameComponent P a b ≡ true → component P a ≤ b
 
 abbrev pub NamedBySmallest : Type 0
 NamedBySmallest = (P : Program) → wellFormed P ≡ true → (a : ℕ) → a < P .atoms → Smallest P a

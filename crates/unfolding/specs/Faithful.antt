@@ -6,7 +6,7 @@ use Prim.Native.Nat.{ℕ, suc, _≤_}
 use lib.Dec.{ltb}
 use Rattle.lists.specs.Lists.{all, any}
 use Rattle.asp.specs.Program.{Program, State}
-use Rattle.asp.specs.Settled.{Settled}
+use Rattle.asp.specs.StableModel.{StableModel}
 use Rattle.unfolding.specs.Unfolded.{unfolded}
 use Rattle.unfolding.specs.Clauses.{Literal, positive, negative, Clause, clauses, variables}
 
@@ -24,8 +24,8 @@ unfoldable pub isModel : Assignment → List Clause → Bool
 isModel M cs = all (any (value M)) cs
 
 -- The cut: the atoms a below n whose variable a + 1 is true.
-unfoldable pub cut : ℕ → Assignment → State
-cut n M a = ltb a n && M (suc a)
+unfoldable pub projection : ℕ → Assignment → State
+projection n M a = ltb a n && M (suc a)
 
 -- The clauses of a program and a sequence, and the number of their variables.
 unfoldable pub clausesOf : Program → List ℕ → List Clause
@@ -34,12 +34,12 @@ clausesOf P s = clauses (unfolded P s)
 unfoldable pub variablesOf : Program → List ℕ → ℕ
 variablesOf P s = variables (unfolded P s)
 
--- Demand 3: the models of the clauses, cut to the program's atoms, are exactly the settled states, one model for each.
+-- Demand 3: the models of the clauses, cut to the program's atoms, are exactly the stable models, one model for each.
 pub record Faithful (P : Program) (s : List ℕ) : Type 0 where
-  -- Every model cuts to a settled state.
-  pub cuts : (M : Assignment) → isModel M (clausesOf P s) ≡ true → Settled P (cut (P .atoms) M)
-  -- Every settled state is the cut of some model.
-  pub lifts : (X : State) → Settled P X → (M : Assignment) × (isModel M (clausesOf P s) ≡ true) × (cut (P .atoms) M ≡ X)
+  -- Every model cuts to a stable model.
+  pub projects : (M : Assignment) → isModel M (clausesOf P s) ≡ true → StableModel P (projection (P .atoms) M)
+  -- Every stable model is the cut of some model.
+  pub lifts : (X : State) → StableModel P X → (M : Assignment) × (isModel M (clausesOf P s) ≡ true) × (projection (P .atoms) M ≡ X)
   -- Two models with the same cut agree on every variable.
   pub one-each : (M M′ : Assignment) → isModel M (clausesOf P s) ≡ true → isModel M′ (clausesOf P s) ≡ true
-      → cut (P .atoms) M ≡ cut (P .atoms) M′ → (v : ℕ) → 1 ≤ v → v ≤ variablesOf P s → M v ≡ M′ v
+      → projection (P .atoms) M ≡ projection (P .atoms) M′ → (v : ℕ) → 1 ≤ v → v ≤ variablesOf P s → M v ≡ M′ v

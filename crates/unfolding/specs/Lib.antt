@@ -1,4 +1,5 @@
 pub mod Graph
+pub mod Component
 pub mod Chain
 pub mod Default
 pub mod Unfolded
@@ -6,3 +7,4 @@ pub mod Decoded
 pub mod Clauses
 pub mod Faithful
 pub mod Claims
+pub mod inner

@@ -7,7 +7,7 @@ use lib.Dec.{eqb}
 use lib.ListN.{length}
 use Rattle.lists.specs.Lists.{all, any, filter, member}
 use Rattle.asp.specs.Program.{Body, Rule, Program}
-use Rattle.unfolding.specs.Graph.{together}
+use Rattle.unfolding.specs.Graph.{sameComponent}
 
 -- One copy of an atom: its variable and the bodies of the rules kept for it, over variables.
 pub record Copy : Type 0 where
@@ -35,11 +35,11 @@ latest (c ∷ past) b = cond (eqb (c .atom) b) (c .var) (latest past b)
 
 -- A rule for a is dropped where a positive atom of a's component has no copy so far.
 unfoldable pub usable : Program → List Copy → ℕ → ℕ → Bool
-usable P past a b = not (together P a b) || copied past b
+usable P past a b = not (sameComponent P a b) || copied past b
 
 -- What stands for a positive atom in a rule for a: its latest copy so far in a's component, its last copy in another.
 unfoldable pub replaced : Program → List Copy → ℕ → ℕ → ℕ
-replaced P past a b = cond (together P a b) (latest past b) (last b)
+replaced P past a b = cond (sameComponent P a b) (latest past b) (last b)
 
 -- The body with its positive atoms replaced so, and its negative atoms by their last copies.
 unfoldable pub renamed : (ℕ → ℕ) → Body → Body

@@ -1,12 +1,12 @@
 -- Laws of writers and of loops over them.
 use mathlib.Core.List.{List, [], _∷_, _++_, append-nil, append-assoc}
 use mathlib.Core.Path.{_≡_, refl, sym, _∙_, ap, subst}
-use Prim.Native.Nat.{ℕ, suc, _+_, _≤_}
+use Prim.Native.Nat.{ℕ, suc, _+_, _≤_, _<_}
 use native.Mathlib.Nat.{add-zero, zero-add}
 use native.Mathlib.Omega.{arith}
 use lib.ListN.{length, length-append, drop, set}
 use lib.Seq.{sets, set-out, length-sets, sets-eq}
-use Rattle.writer.specs.Wrote.{Wrote}
+use Rattle.writer.specs.inner.Wrote.{Wrote}
 
 module _ {A : Type 0} where
   pub wrote-one : (old : List A) (at : ℕ) (w : A) → Wrote old at (w ∷ []) (set old at w) (at + 1)
@@ -23,19 +23,19 @@ module _ {A : Type 0} where
       ∙ ap (λ k. sets (sets (set old at x) (suc at) xs) k ys) (let e : suc at + length xs ≡ at + suc (length xs) = omega arith in e)
 
 -- A loop that writes: what is written so far, and what is still to be written.
-pub record Left {A : Type 0} (old : List A) (at : ℕ) (ws cur : List A) (pos : ℕ) (rest : List A) : Type 0 where
+pub record Left {A : Type 0} (old : List A) (at : ℕ) (ws cur : List A) (next : ℕ) (rest : List A) : Type 0 where
   pub done : List A
   pub split : done ++ rest ≡ ws
-  pub so-far : Wrote old at done cur pos
-  pub ends : pos + length rest ≡ at + length ws
+  pub so-far : Wrote old at done cur next
+  pub ends : next + length rest ≡ at + length ws
 
 module _ {A : Type 0} (old : List A) (at : ℕ) (ws : List A) where
   pub left-start : (rest : List A) → rest ≡ ws → Left old at ws old at rest
   left-start rest e = record { done = []; split = e; so-far = record { stored = refl; moved = sym (add-zero at) }; ends = ap (λ l. at + length l) e }
 
-  pub left-turn : (cur new xs rest less : List A) (pos next : ℕ) → Left old at ws cur pos rest → rest ≡ xs ++ less → Wrote cur pos xs new next
-      → Left old at ws new next less
-  left-turn cur new xs rest less pos next L e W =
+  pub left-turn : (cur new xs rest less : List A) (next behind : ℕ) → Left old at ws cur next rest → rest ≡ xs ++ less → Wrote cur next xs new behind
+      → Left old at ws new behind less
+  left-turn cur new xs rest less next behind L e W =
       let d = L .done in
       let size = ap length e ∙ length-append xs less in
       let sum = length-append d xs in
@@ -46,18 +46,22 @@ module _ {A : Type 0} (old : List A) (at : ℕ) (ws : List A) where
         done = d ++ xs;
         split = append-assoc d xs less ∙ (ap (λ l. d ++ l) (sym e) ∙ L .split);
         so-far = record {
-          stored = W .stored ∙ (ap (λ l. sets l pos xs) (L .so-far .stored) ∙ (ap (λ p. sets (sets old at d) p xs) m ∙ sym (sets-append d xs old at)));
+          stored = W .stored ∙ (ap (λ l. sets l next xs) (L .so-far .stored) ∙ (ap (λ p. sets (sets old at d) p xs) m ∙ sym (sets-append d xs old at)));
           moved = omega arith;
         };
         ends = omega arith;
       }
 
-  -- The buffer keeps its length.
-  pub left-length : (cur rest : List A) (pos : ℕ) → Left old at ws cur pos rest → length cur ≡ length old
-  left-length cur rest pos L = ap length (L .so-far .stored) ∙ length-sets old at (L .done)
+  -- There is room for what comes next where there is room for all.
+  pub left-room : (cur xs rest less : List A) (next : ℕ) → Left old at ws cur next rest → rest ≡ xs ++ less → at + length ws < 4294967296 → next + length xs < 4294967296
+  left-room cur xs rest less next L e h = let f = L .ends in let k = ap length e ∙ length-append xs less in omega arith
 
-  pub left-end : (cur rest : List A) (pos : ℕ) → Left old at ws cur pos rest → rest ≡ [] → Wrote old at ws cur pos
-  left-end cur rest pos L e = subst (λ l. Wrote old at l cur pos) (sym (append-nil (L .done)) ∙ (ap (λ l. L .done ++ l) (sym e) ∙ L .split)) (L .so-far)
+  -- The buffer keeps its length.
+  pub left-length : (cur rest : List A) (next : ℕ) → Left old at ws cur next rest → length cur ≡ length old
+  left-length cur rest next L = ap length (L .so-far .stored) ∙ length-sets old at (L .done)
+
+  pub left-end : (cur rest : List A) (next : ℕ) → Left old at ws cur next rest → rest ≡ [] → Wrote old at ws cur next
+  left-end cur rest next L e = subst (λ l. Wrote old at l cur next) (sym (append-nil (L .done)) ∙ (ap (λ l. L .done ++ l) (sym e) ∙ L .split)) (L .so-far)
 
 module _ {A : Type 0} where
   -- Two writers, one behind the other.

@@ -1,79 +1,73 @@
--- `chains::passes` meets its contract, one law for each way through it.
-use Prim.Native.Nat.{_-_}
-use native.Mathlib.Omega.{arith}
+use Rattle.lists.proofs.Members.{below-more}
 use borrow.Author.Needs.{needs}
+use Rattle.chains.proofs.Components.{Asking, asking-start, asking-turn, asking-fails, asking-end, few-atoms, entries-low, entries-gathered}
 use borrow.Author.Tests.{not-true, not-false}
 use lib.ListN.{drop}
-use Rattle.chains.proofs.Components.{Sofar, passes-start, passes-turn, passes-fails, passes-end, component-few, below-64, entries-low, entries-gathered}
-use Rattle.components.proofs.Components.{walk-leading}
-use Rattle.sheet.specs.Sheet.{recordsFrom, programOf}
+use Prim.Native.Nat.{_-_}
 use Rattle.chains.proofs.passes.Statement.{statement}
 use Rattle.chains.proofs.passes.Tie as tie
+use Rattle.chains.proofs.passes.Reads as reads
+use Rattle.chains.proofs.passes.Lts as lts
+use Rattle.bits.proofs.gather.Reads as gather-reads
+use Rattle.chains.proofs.component_found.Reads as component-found-reads
 
 abbrev Inv-loop : tie.InvT-loop
-Inv-loop s n m names q rows of entries c₀ c = Sofar (programOf n (recordsFrom m s 5)) (drop 3 q) c
+Inv-loop n rows sets q entries c₀ c = Asking n rows sets (drop 3 q) c
 
 abbrev μ-loop : tie.MeasureT-loop
-μ-loop s n m names q rows of entries c₀ c = n - c
+μ-loop n rows sets q entries c₀ c = n - c
 
-edges-requires : tie.Need-edges-requires Inv-loop μ-loop
-edges-requires c κs = search needs
-
-component-sizes-requires : tie.Need-component-sizes-requires Inv-loop μ-loop
-component-sizes-requires c κs = search (needs, walk-leading)
-
+-- src/lib.rt:156:26
 sub-gather : tie.Need-sub-gather Inv-loop μ-loop
 sub-gather c = search needs
 
+-- src/lib.rt:156:26
 part-gather-start : tie.Need-part-gather-start Inv-loop μ-loop
 part-gather-start c = search needs
 
+-- src/lib.rt:156:26
 part-gather-end : tie.Need-part-gather-end Inv-loop μ-loop
 part-gather-end c = search needs
 
+-- src/lib.rt:156:9
 gather-requires : tie.Need-gather-requires Inv-loop μ-loop
 gather-requires c κs = search (needs, entries-low)
 
+-- src/lib.rt:158:5
 loop-holds : tie.Need-loop-holds Inv-loop μ-loop
-loop-holds c = search (needs, passes-start)
+loop-holds c = search (needs, asking-start)
 
+-- src/lib.rt:159:35
 mul-component-found : tie.Need-mul-component-found Inv-loop μ-loop
 mul-component-found c = search needs
 
-array-read-component-found : tie.Need-array-read-component-found Inv-loop μ-loop
-array-read-component-found c = search needs
+-- src/lib.rt:159:35
+element-copy-out-component-found : tie.Need-element-copy-out-component-found Inv-loop μ-loop
+element-copy-out-component-found c = search needs
 
+-- src/lib.rt:159:13
 component-found-requires : tie.Need-component-found-requires Inv-loop μ-loop
-component-found-requires c κs =
-    let at-gather = c .before .before .before in
-    let at-component-sizes = at-gather .before .before .before in
-    let at-pre = at-component-sizes .before .before .before .before .before in
-    let pre = at-pre .pre in
-    (pre .1, omega arith, at-component-sizes .component-sizes .ensures .size _ (omega arith), component-few _ _ _ _ (pre .2) (pre .3) (omega arith), pre .4, below-64 _ _ (pre .1) (pre .5), entries-gathered (at-pre .args .q .now) _ (at-gather .gather .ensures))
+component-found-requires c κs = search (needs, few-atoms, below-more, entries-gathered)
 
+-- src/lib.rt:160:13
 returns : tie.Need-returns Inv-loop μ-loop
-returns c =
-    let at-edges = c .before .before .before .before .before .before .before .before .before .before in
-    let at-pre = at-edges .before .before .before in
-    let pre = at-pre .pre in
-    passes-fails _ _ _ (pre .0) _ _ _ (at-edges .edges .ensures) (pre .2) _ _ (c .before .component-found .ensures) (search (needs, not-true))
+returns c = search (needs, not-true, asking-fails)
 
+-- src/lib.rt:162:9
 add-c : tie.Need-add-c Inv-loop μ-loop
 add-c c = search needs
 
+-- src/lib.rt:158:5
 loop-less : tie.Need-loop-less Inv-loop μ-loop
 loop-less c = search needs
 
+-- src/lib.rt:158:5
 loop-again : tie.Need-loop-again Inv-loop μ-loop
-loop-again c =
-    let at-loop = c .before .before .before .before in
-    let at-edges = at-loop .before .before .before .before .before .before in
-    let at-pre = at-edges .before .before .before in
-    let pre = at-pre .pre in
-    passes-turn _ _ _ (pre .0) _ _ _ (at-edges .edges .ensures) (pre .2) _ _ (c .before .component-found .ensures) (at-loop .loop .inv) (search (needs, not-false))
+loop-again c = search (needs, not-false, asking-turn)
 
+-- src/lib.rt:152:1
 returns-2 : tie.Need-returns-2 Inv-loop μ-loop
-returns-2 c = search (needs, passes-end)
+returns-2 c = search (needs, asking-end)
 
 pub passes-spec : {M : Type 1} → statement M
 passes-spec =
@@ -81,15 +75,13 @@ passes-spec =
     (tie.spec
     Inv-loop
     μ-loop
-    edges-requires
-    component-sizes-requires
     sub-gather
     part-gather-start
     part-gather-end
     gather-requires
     loop-holds
     mul-component-found
-    array-read-component-found
+    element-copy-out-component-found
     component-found-requires
     returns
     add-c

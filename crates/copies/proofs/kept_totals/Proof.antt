@@ -1,28 +1,28 @@
 -- `copies::kept_totals` meets its contract, one law for each way through it.
 use borrow.Author.Needs.{needs}
-use Rattle.copies.proofs.Totalling.{Totalling, totalling-start, totalling-turn, totalling-end, totalling-fresh, totalling-entry, totalling-rules, totalling-atoms}
+use Rattle.copies.proofs.Totalling.{Totalling, totalling-start, totalling-atom, totalling-name, totalling-rules, totalling-atoms, totalling-turn, totalling-end}
 use lib.ListN.{length}
 use Prim.Native.Nat.{_-_}
 use Rattle.copies.proofs.kept_totals.Statement.{statement}
 use Rattle.copies.proofs.kept_totals.Tie as tie
 
 abbrev Inv-loop : tie.InvT-loop
-Inv-loop s q n m names places pos copies₀ rules₀ atoms₀ i₀ copies rules atoms i = Totalling s q n m copies rules atoms i
+Inv-loop q names sets t count copied₀ rules₀ atoms₀ i₀ copied rules atoms i = Totalling t q i copied rules atoms
 
 abbrev μ-loop : tie.MeasureT-loop
-μ-loop s q n m names places pos copies₀ rules₀ atoms₀ i₀ copies rules atoms i = length q - i
-
-no-copies-requires : tie.Need-no-copies-requires Inv-loop μ-loop
-no-copies-requires c κs = search needs
+μ-loop q names sets t count copied₀ rules₀ atoms₀ i₀ copied rules atoms i = length q - i
 
 loop-holds : tie.Need-loop-holds Inv-loop μ-loop
 loop-holds c = search (needs, totalling-start)
 
-next-requires : tie.Need-next-requires Inv-loop μ-loop
-next-requires c κs = search (needs, totalling-fresh)
+byte-at-requires : tie.Need-byte-at-requires Inv-loop μ-loop
+byte-at-requires c κs = search needs
 
-choose-requires : tie.Need-choose-requires Inv-loop μ-loop
-choose-requires c κs = search needs
+component-of-requires : tie.Need-component-of-requires Inv-loop μ-loop
+component-of-requires c κs = (search (needs, totalling-atom), search (needs, totalling-name))
+
+kept-rules-requires : tie.Need-kept-rules-requires Inv-loop μ-loop
+kept-rules-requires c κs = search needs
 
 add-rules : tie.Need-add-rules Inv-loop μ-loop
 add-rules c = search (needs, totalling-rules)
@@ -30,8 +30,11 @@ add-rules c = search (needs, totalling-rules)
 add-atoms : tie.Need-add-atoms Inv-loop μ-loop
 add-atoms c = search (needs, totalling-atoms)
 
+with-requires : tie.Need-with-requires Inv-loop μ-loop
+with-requires c κs = search (needs, totalling-atom)
+
 add-i : tie.Need-add-i Inv-loop μ-loop
-add-i c = search (needs, totalling-entry)
+add-i c = search needs
 
 loop-less : tie.Need-loop-less Inv-loop μ-loop
 loop-less c = search needs
@@ -48,12 +51,13 @@ kept-totals-spec =
     (tie.spec
     Inv-loop
     μ-loop
-    no-copies-requires
     loop-holds
-    next-requires
-    choose-requires
+    byte-at-requires
+    component-of-requires
+    kept-rules-requires
     add-rules
     add-atoms
+    with-requires
     add-i
     loop-less
     loop-again

@@ -1,13 +1,12 @@
 -- `copies::last_copies` meets its contract, one law for each way through it.
-use Prim.Native.Nat.{_-_}
 use borrow.Author.Needs.{needs}
-use Rattle.copies.proofs.Tables.{Filling, filling-start, last-turn, filling-end}
+use Rattle.copies.proofs.Tables.{Filling, filling-start, filling-turn, filling-end}
+use Prim.Native.Nat.{_-_}
 use Rattle.copies.proofs.last_copies.Statement.{statement}
 use Rattle.copies.proofs.last_copies.Tie as tie
-use Rattle.unfolding.specs.Unfolded.{last}
 
 abbrev Inv-loop : tie.InvT-loop
-Inv-loop vars₀ b₀ vars b = Filling last b vars
+Inv-loop vars₀ b₀ vars b = Filling b vars
 
 abbrev μ-loop : tie.MeasureT-loop
 μ-loop vars₀ b₀ vars b = 64 - b
@@ -34,7 +33,7 @@ loop-less : tie.Need-loop-less Inv-loop μ-loop
 loop-less c = search needs
 
 loop-again : tie.Need-loop-again Inv-loop μ-loop
-loop-again c = search (needs, last-turn)
+loop-again c = search (needs, filling-turn)
 
 returns : tie.Need-returns Inv-loop μ-loop
 returns c = search (needs, filling-end)

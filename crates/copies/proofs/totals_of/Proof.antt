@@ -4,22 +4,17 @@ use borrow.Author.Needs.{needs}
 use Rattle.copies.proofs.totals_of.Statement.{statement}
 use Rattle.copies.proofs.totals_of.Tie as tie
 
-index-of-requires : tie.Need-index-of-requires
-index-of-requires c κs = search needs
+add-atoms-at : tie.Need-add-atoms-at
+add-atoms-at c = search needs
+
+atoms-at-requires : tie.Need-atoms-at-requires
+atoms-at-requires c κs = search needs
 
 kept-totals-requires : tie.Need-kept-totals-requires
 kept-totals-requires c κs = search needs
-
-last-copies-requires : tie.Need-last-copies-requires
-last-copies-requires c κs = search needs
-
-choose-requires : tie.Need-choose-requires
-choose-requires c κs = search needs
 
 returns : tie.Need-returns
 returns c = search (needs, totals-are)
 
 pub totals-of-spec : {M : Type 1} → statement M
-totals-of-spec =
-    tie.close
-    (tie.spec index-of-requires kept-totals-requires last-copies-requires choose-requires returns)
+totals-of-spec = tie.close (tie.spec add-atoms-at atoms-at-requires kept-totals-requires returns)

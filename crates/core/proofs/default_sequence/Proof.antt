@@ -1,51 +1,47 @@
--- `core::default_sequence` meets its contract, one law for each way through it.
-use native.Mathlib.Omega.{arith}
+use Rattle.core.proofs.Writing.{default-refused, names-low, entries-fit, blocks-room, default-full, default-done}
 use borrow.Author.Needs.{needs}
-use Rattle.core.proofs.Writing.{room-refused, entries-short, sizes-room, entries-few, default-full, default-done}
 use Rattle.core.proofs.default_sequence.Statement.{statement}
 use Rattle.core.proofs.default_sequence.Tie as tie
+use Rattle.core.proofs.default_sequence.Reads as reads
+use Rattle.core.proofs.default_sequence.Lts as lts
+use Rattle.core.proofs.ask_sheet.Reads as ask-sheet-reads
+use Rattle.core.proofs.put_header.Reads as put-header-reads
+use Rattle.sheet_output.proofs.blocks_length.Reads as blocks-length-reads
+use Rattle.sheet_output.proofs.put_blocks.Reads as put-blocks-reads
 
-analyse-requires : tie.Need-analyse-requires
-analyse-requires c κs = search needs
+-- src/lib.rt:310:9
+ask-sheet-requires : tie.Need-ask-sheet-requires
+ask-sheet-requires c κs = search needs
 
+-- src/lib.rt:313:9
 returns : tie.Need-returns
-returns c = search (needs, room-refused)
+returns c = search (needs, default-refused)
 
-component-sizes-requires : tie.Need-component-sizes-requires
-component-sizes-requires c κs = sizes-room _ _ _ (c .before .before .before .analyse .ensures) (c .before .before .if1 .left) (search needs)
-
+-- src/lib.rt:318:9
 blocks-length-requires : tie.Need-blocks-length-requires
-blocks-length-requires c κs =
-    let at-if1 = c .before .before .before .before .before in
-    let at-analyse = at-if1 .before in
-    (sizes-room _ _ _ (at-analyse .analyse .ensures) (at-if1 .if1 .left) (search needs) .0, c .before .before .component-sizes .ensures .few)
+blocks-length-requires c κs = search (needs, names-low)
 
+-- src/lib.rt:319:20
 add-if2 : tie.Need-add-if2
-add-if2 c =
-    let at-component-sizes = c .before .before .before in
-    let at-if1 = at-component-sizes .before .before .before in
-    let at-analyse = at-if1 .before in
-    omega (arith, entries-few _ _ _ (at-analyse .analyse .ensures) (at-if1 .if1 .left) _ _ (at-component-sizes .component-sizes .ensures) (c .blocks-length .ensures) (search needs) (search needs))
+add-if2 c = search (needs, entries-fit)
 
+-- src/lib.rt:320:9
 returns-2 : tie.Need-returns-2
 returns-2 c = search (needs, default-full)
 
+-- src/lib.rt:322:9
 put-header-requires : tie.Need-put-header-requires
 put-header-requires c κs = search needs
 
+-- src/lib.rt:323:9
 put-blocks-requires : tie.Need-put-blocks-requires
-put-blocks-requires c κs =
-    let at-put-header = c .before .before .before .before .before in
-    let at-component-sizes = at-put-header .before .before .before .before .before .before in
-    let at-if1 = at-component-sizes .before .before .before in
-    let at-analyse = at-if1 .before in
-    let room = sizes-room _ _ _ (at-analyse .analyse .ensures) (at-if1 .if1 .left) (search needs) in
-    let few = entries-short _ _ _ (at-analyse .analyse .ensures) (at-if1 .if1 .left) (search needs) (search needs) in
-    (room .0, room .1, at-component-sizes .component-sizes .ensures, omega (arith, at-put-header .put-header .ensures .moved))
+put-blocks-requires c κs = search (needs, names-low, blocks-room)
 
+-- src/lib.rt:306:1
 same-length : tie.Need-same-length
 same-length c = search needs
 
+-- src/lib.rt:306:1
 returns-3 : tie.Need-returns-3
 returns-3 c = search (needs, default-done)
 
@@ -53,9 +49,8 @@ pub default-sequence-spec : {M : Type 1} → statement M
 default-sequence-spec =
     tie.close
     (tie.spec
-    analyse-requires
+    ask-sheet-requires
     returns
-    component-sizes-requires
     blocks-length-requires
     add-if2
     returns-2

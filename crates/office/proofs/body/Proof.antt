@@ -1,6 +1,6 @@
 -- `office::body` meets its contract, one law for each way through it.
 use borrow.Author.Needs.{needs}
-use Rattle.office.proofs.Laws.{few-atoms, small-components}
+use Rattle.office.proofs.Laws.{supported}
 use Rattle.office.proofs.body.Statement.{statement}
 use Rattle.office.proofs.body.Tie as tie
 
@@ -8,7 +8,7 @@ limits-requires : tie.Need-limits-requires
 limits-requires c κs = search needs
 
 body-requires : tie.Need-body-requires
-body-requires c κs = search (needs, few-atoms, small-components)
+body-requires c κs = search (needs, supported)
 
 returns : tie.Need-returns
 returns c = rw (c .before .limits .ensures) at (c .body .ensures)

@@ -1,6 +1,6 @@
 -- `office::clauses` meets its contract, one law for each way through it.
 use borrow.Author.Needs.{needs}
-use Rattle.office.proofs.Laws.{few-atoms, few-records, tabled-components, few-entries}
+use Rattle.office.proofs.Laws.{supported}
 use Rattle.office.proofs.clauses.Statement.{statement}
 use Rattle.office.proofs.clauses.Tie as tie
 
@@ -8,7 +8,7 @@ limits-requires : tie.Need-limits-requires
 limits-requires c κs = search needs
 
 clauses-requires : tie.Need-clauses-requires
-clauses-requires c κs = search (needs, few-atoms, few-records, tabled-components, few-entries)
+clauses-requires c κs = search (needs, supported)
 
 same-length : tie.Need-same-length
 same-length c = search needs

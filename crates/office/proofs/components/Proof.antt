@@ -1,6 +1,6 @@
 -- `office::components` meets its contract, one law for each way through it.
 use borrow.Author.Needs.{needs}
-use Rattle.office.proofs.Laws.{few-atoms, small-components}
+use Rattle.office.proofs.Laws.{supported}
 use Rattle.office.proofs.components.Statement.{statement}
 use Rattle.office.proofs.components.Tie as tie
 
@@ -8,7 +8,7 @@ limits-requires : tie.Need-limits-requires
 limits-requires c κs = search needs
 
 components-requires : tie.Need-components-requires
-components-requires c κs = search (needs, few-atoms, small-components)
+components-requires c κs = search (needs, supported)
 
 same-length : tie.Need-same-length
 same-length c = search needs

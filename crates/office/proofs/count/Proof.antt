@@ -1,6 +1,6 @@
 -- `office::count` meets its contract, one law for each way through it.
 use borrow.Author.Needs.{needs}
-use Rattle.office.proofs.Laws.{few-atoms, few-records}
+use Rattle.office.proofs.Laws.{supported}
 use Rattle.office.proofs.count.Statement.{statement}
 use Rattle.office.proofs.count.Tie as tie
 
@@ -8,7 +8,7 @@ limits-requires : tie.Need-limits-requires
 limits-requires c κs = search needs
 
 count-requires : tie.Need-count-requires
-count-requires c κs = search (needs, few-atoms, few-records)
+count-requires c κs = search (needs, supported)
 
 returns : tie.Need-returns
 returns c = rw (c .before .limits .ensures) at (c .count .ensures)

@@ -1,6 +1,6 @@
 -- `office::default_sequence` meets its contract, one law for each way through it.
 use borrow.Author.Needs.{needs}
-use Rattle.office.proofs.Laws.{few-atoms, small-components}
+use Rattle.office.proofs.Laws.{supported}
 use Rattle.office.proofs.default_sequence.Statement.{statement}
 use Rattle.office.proofs.default_sequence.Tie as tie
 
@@ -8,7 +8,7 @@ limits-requires : tie.Need-limits-requires
 limits-requires c κs = search needs
 
 default-sequence-requires : tie.Need-default-sequence-requires
-default-sequence-requires c κs = search (needs, few-atoms, small-components)
+default-sequence-requires c κs = search (needs, supported)
 
 same-length : tie.Need-same-length
 same-length c = search needs

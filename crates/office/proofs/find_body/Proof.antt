@@ -1,6 +1,6 @@
 -- `office::find_body` meets its contract, one law for each way through it.
 use borrow.Author.Needs.{needs}
-use Rattle.office.proofs.Laws.{few-atoms}
+use Rattle.office.proofs.Laws.{supported}
 use Rattle.office.proofs.find_body.Statement.{statement}
 use Rattle.office.proofs.find_body.Tie as tie
 
@@ -8,7 +8,7 @@ limits-requires : tie.Need-limits-requires
 limits-requires c κs = search needs
 
 find-body-requires : tie.Need-find-body-requires
-find-body-requires c κs = search (needs, few-atoms)
+find-body-requires c κs = search (needs, supported)
 
 returns : tie.Need-returns
 returns c = rw (c .before .limits .ensures) at (c .find-body .ensures)

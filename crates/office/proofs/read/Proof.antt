@@ -1,6 +1,6 @@
 -- `office::read` meets its contract, one law for each way through it.
 use borrow.Author.Needs.{needs}
-use Rattle.office.proofs.Laws.{few-atoms, small-components}
+use Rattle.office.proofs.Laws.{supported}
 use Rattle.office.proofs.read.Statement.{statement}
 use Rattle.office.proofs.read.Tie as tie
 
@@ -8,7 +8,7 @@ limits-requires : tie.Need-limits-requires
 limits-requires c κs = search needs
 
 read-requires : tie.Need-read-requires
-read-requires c κs = search (needs, few-atoms, small-components)
+read-requires c κs = search (needs, supported)
 
 returns : tie.Need-returns
 returns c = rw (c .before .limits .ensures) at (c .read .ensures)

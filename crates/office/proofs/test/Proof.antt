@@ -1,6 +1,6 @@
 -- `office::test` meets its contract, one law for each way through it.
 use borrow.Author.Needs.{needs}
-use Rattle.office.proofs.Laws.{few-atoms, tabled-components}
+use Rattle.office.proofs.Laws.{supported}
 use Rattle.office.proofs.test.Statement.{statement}
 use Rattle.office.proofs.test.Tie as tie
 
@@ -8,7 +8,7 @@ limits-requires : tie.Need-limits-requires
 limits-requires c κs = search needs
 
 test-requires : tie.Need-test-requires
-test-requires c κs = search (needs, few-atoms, tabled-components)
+test-requires c κs = search (needs, supported)
 
 returns : tie.Need-returns
 returns c = rw (c .before .limits .ensures) at (c .test .ensures)

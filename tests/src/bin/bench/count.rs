@@ -3,7 +3,7 @@
 use crate::check;
 use crate::sheets::families;
 use crate::timing::{median, time_in_turns, time_once};
-use rulesheet_tests::library::plain_count;
+use rulesheet_tests::binding;
 use rulesheet_tests::report::Tally;
 use rulesheet_tests::sheet::{Record, Sheet, RULE};
 use std::fmt::Write;
@@ -15,7 +15,7 @@ use std::{env, fs};
 const RUNS: usize = 15;
 
 pub fn count(sheet: &[u8]) -> u64 {
-    plain_count(sheet).expect("the sheet is not refused")
+    binding::count(sheet).expect("the sheet is not refused")[0]
 }
 
 pub fn measure(tally: &mut Tally) {

@@ -3,15 +3,15 @@
 use crate::check;
 use crate::sheets::{complete, full, sheet_a};
 use crate::timing::{columns, time_in_turns};
-use rulesheet_tests::library::{plain_body, plain_components, plain_default, plain_read};
+use rulesheet_tests::binding;
 use rulesheet_tests::reference::answer;
 use rulesheet_tests::report::Tally;
 use rulesheet_tests::service::{Answer, Call, Operation};
 use rulesheet_tests::sheet::{rule, Sheet};
 use std::hint::black_box;
 
-/// The longest output: a header and 640 entries.
-const ROOM: usize = 643;
+/// The longest output.
+const ROOM: usize = binding::DEFAULT_ROOM;
 const OPERATIONS: [Operation; 4] = [Operation::Read, Operation::Body, Operation::Components, Operation::Default];
 /// The sum and each operation.
 const CALLS: usize = 5;
@@ -71,10 +71,10 @@ impl Row {
     fn call(&mut self, which: usize) {
         match which {
             0 => drop(black_box(sum(black_box(&self.sheet)))),
-            1 => drop(black_box(plain_read(&self.sheet))),
-            2 => drop(black_box(plain_body(&self.sheet, self.last))),
-            3 => drop(black_box(plain_components(&self.sheet, &mut self.out))),
-            _ => drop(black_box(plain_default(&self.sheet, &mut self.out))),
+            1 => drop(black_box(binding::read(&self.sheet))),
+            2 => drop(black_box(binding::body(&self.sheet, self.last))),
+            3 => drop(black_box(binding::components(&self.sheet, &mut self.out))),
+            _ => drop(black_box(binding::default_sequence(&self.sheet, &mut self.out))),
         }
     }
 
@@ -94,16 +94,20 @@ impl Row {
 
 fn library_answer(operation: Operation, sheet: &[u8], number: u64) -> Answer {
     let mut out = [0; ROOM];
-    let stretch = |offset: u64, length: u64| sheet[offset as usize..][..length as usize].to_vec();
+    let slice = |offset: u64, length: u64| sheet[offset as usize..][..length as usize].to_vec();
     let answer = match operation {
-        Operation::Read => plain_read(sheet).map(|[atoms, records]| Answer::Read { atoms, records }),
-        Operation::Body => plain_body(sheet, number).map(|[positives, offset, length]| Answer::Body {
+        Operation::Read => binding::read(sheet).map(|[atoms, records]| Answer::Read { atoms, records }),
+        Operation::Body => binding::body(sheet, number).map(|[positives, offset, length]| Answer::Body {
             positives,
-            stretch: stretch(offset, length),
+            slice: slice(offset, length),
             offset,
         }),
-        Operation::Components => plain_components(sheet, &mut out).map(|length| Answer::Bytes(out[..length].to_vec())),
-        Operation::Default => plain_default(sheet, &mut out).map(|length| Answer::Bytes(out[..length].to_vec())),
+        Operation::Components => {
+            binding::components(sheet, &mut out).map(|[length]| Answer::Bytes(out[..length as usize].to_vec()))
+        }
+        Operation::Default => {
+            binding::default_sequence(sheet, &mut out).map(|[length]| Answer::Bytes(out[..length as usize].to_vec()))
+        }
         other => unreachable!("{}", other.name()),
     };
     answer.unwrap_or_else(Answer::Refused)

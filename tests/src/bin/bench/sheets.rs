@@ -52,8 +52,8 @@ pub fn families() -> Vec<(&'static str, Vec<Sheet>)> {
         ("8 even loops", vec![even_loops()]),
         ("chain of 64", vec![Sheet::new(64, chain())]),
         ("chain of 64, reverse", vec![Sheet::new(64, reverse(chain()))]),
-        ("8 pumps of 2", vec![pumps(2)]),
-        ("8 pumps of 7", vec![pumps(7)]),
+        ("8 positive loops of 2", vec![positive_loops(2)]),
+        ("8 positive loops of 7", vec![positive_loops(7)]),
         ("last of 16 decides", vec![Sheet::new(64, twice(last_decides()))]),
         ("first of 16 decides", vec![Sheet::new(64, twice(exchanged(last_decides(), 0, 15)))]),
         ("last of 16 decides, shuffled", vec![Sheet::new(64, twice(shuffled))]),
@@ -86,13 +86,13 @@ fn chain() -> Vec<Record> {
     [rule(0, &[], &[])].into_iter().chain(links).collect()
 }
 
-/// Eight cycles of so many atoms, each with an atom that holds if the cycle does not.
-fn pumps(size: u8) -> Sheet {
-    let pump = |first: u8| {
+/// Eight positive loops of so many atoms, each with an atom that holds if the loop does not.
+fn positive_loops(size: u8) -> Sheet {
+    let looped = |first: u8| {
         let atoms: Vec<u8> = (first..first + size).collect();
         cycle(&atoms).into_iter().chain(even_loop(first, first + size))
     };
-    Sheet::new(8 * (size + 1), (0..8).flat_map(|place| pump(place * (size + 1))).collect())
+    Sheet::new(8 * (size + 1), (0..8).flat_map(|place| looped(place * (size + 1))).collect())
 }
 
 /// Atoms 0 to 15 are negated, and only 15 decides anything: without it a chain holds, from 16 to 63 and on from 0 to 14.

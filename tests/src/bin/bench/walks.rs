@@ -3,7 +3,7 @@
 use crate::check;
 use crate::sheets::complete;
 use crate::timing::{time_in_turns, time_once};
-use rulesheet_tests::library::plain_test;
+use rulesheet_tests::binding;
 use rulesheet_tests::reference::{all_found, Graph};
 use rulesheet_tests::report::Tally;
 use rulesheet_tests::sequences::{padded, MOST_ENTRIES};
@@ -47,7 +47,7 @@ impl Row {
     }
 
     fn call(&self) -> bool {
-        plain_test(&self.sheet, &self.sequence)
+        binding::test(&self.sheet, &self.sequence).is_ok()
     }
 
     /// Runs the walks and compares the answers.

@@ -3,15 +3,15 @@
 use crate::check;
 use crate::sheets::{complete, full, late, sheet_a, six_components};
 use crate::timing::{columns, time_in_turns};
-use rulesheet_tests::library::{plain_clauses, plain_test, plain_unfolded};
+use rulesheet_tests::binding;
 use rulesheet_tests::reference::{unfold, Graph, Unfolded};
 use rulesheet_tests::report::Tally;
 use rulesheet_tests::sheet::{sequence_bytes, Sheet};
 use std::hint::black_box;
 
 pub fn measure(tally: &mut Tally) {
-    Writer { name: "unfolded", call: plain_unfolded, expected: unfolded_numbers }.table(tally);
-    Writer { name: "clauses", call: plain_clauses, expected: clauses_numbers }.table(tally);
+    Writer { name: "unfolded", call: binding::unfolded, expected: unfolded_numbers }.table(tally);
+    Writer { name: "clauses", call: binding::clauses, expected: clauses_numbers }.table(tally);
 }
 
 /// The fill, the test, a call without room and a call.
@@ -89,14 +89,14 @@ impl<T: Copy + From<bool>, const N: usize> Writer<T, N> {
         let name = format!("{}, {}", self.name, input.name);
         check(tally, &name, (self.call)(&sheet, &sequence, &mut out) == Ok(expected));
         check(tally, &name, (self.call)(&sheet, &sequence, &mut []) == Err(10));
-        check(tally, &name, plain_test(&sheet, &sequence));
+        check(tally, &name, binding::test(&sheet, &sequence).is_ok());
         Row { input, sheet, sequence, out, times: Vec::new() }
     }
 
     fn call(&self, Row { sheet, sequence, out, .. }: &mut Row<T>, which: usize) {
         match which {
             0 => black_box(out).fill(black_box(T::from(true))),
-            1 => drop(black_box(plain_test(sheet, sequence))),
+            1 => drop(black_box(binding::test(sheet, sequence))),
             2 => drop(black_box((self.call)(sheet, sequence, &mut []))),
             _ => drop(black_box((self.call)(sheet, sequence, out))),
         }

@@ -1,31 +1,39 @@
--- `components::Reach::close` meets its contract, one law for each way through it.
-use Prim.Native.Nat.{_-_, _≤_}
 use borrow.Author.Needs.{needs}
-use Rattle.components.proofs.Closing.{Rounds, rounds-start, rounds-turn, rounds-end}
+use Rattle.components.proofs.Closing.{ClosureRounds, rounds-start, rounds-turn, rounds-end}
+use Prim.Native.Nat.{_-_, _≤_}
 use Rattle.components.proofs.Reach.close.Statement.{statement}
 use Rattle.components.proofs.Reach.close.Tie as tie
+use Rattle.components.proofs.Reach.close.Reads as reads
+use Rattle.components.proofs.Reach.close.Lts as lts
+use Rattle.components.proofs.close_by.Reads as close-by-reads
 
 abbrev Inv-loop : tie.InvT-loop
-Inv-loop n table₀ k₀ table k = Rounds n (table₀ .rows) k (table .rows) × (k ≤ n)
+Inv-loop n rows₀ k₀ rows k = ClosureRounds n rows₀ k rows × (k ≤ n)
 
 abbrev μ-loop : tie.MeasureT-loop
-μ-loop n table₀ k₀ table k = n - k
+μ-loop n rows₀ k₀ rows k = n - k
 
+-- src/lib.rt:76:9
 loop-holds : tie.Need-loop-holds Inv-loop μ-loop
 loop-holds c = search (needs, rounds-start)
 
+-- src/lib.rt:77:13
 close-by-requires : tie.Need-close-by-requires Inv-loop μ-loop
 close-by-requires c κs = search needs
 
+-- src/lib.rt:78:13
 add-k : tie.Need-add-k Inv-loop μ-loop
 add-k c = search needs
 
+-- src/lib.rt:76:9
 loop-less : tie.Need-loop-less Inv-loop μ-loop
 loop-less c = search needs
 
+-- src/lib.rt:76:9
 loop-again : tie.Need-loop-again Inv-loop μ-loop
 loop-again c = search (needs, rounds-turn)
 
+-- src/lib.rt:70:5
 returns : tie.Need-returns Inv-loop μ-loop
 returns c = search (needs, rounds-end)
 

@@ -1,0 +1,3 @@
+pub mod Sizes
+pub mod Rules
+pub mod Whole

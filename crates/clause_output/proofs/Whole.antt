@@ -1,0 +1,193 @@
+-- Laws of writing the clauses of the copies, of the constraints, and all.
+use mathlib.Core.List.{List, [], _∷_, _++_, map, flatMap}
+use mathlib.Core.Path.{_≡_, refl, sym, _∙_, ap, subst}
+use Prim.Native.Nat.{ℕ, suc, _+_, _-_, _≤_, _<_}
+use native.Mathlib.Omega.{arith}
+use lib.IntN.{ℤ}
+use lib.ListN.{length, length-append, set, replicate}
+use Rattle.asp.specs.Program.{Body}
+use Rattle.unfolding.specs.Unfolded.{Copy, last}
+use Rattle.unfolding.specs.Clauses.{copyClauses, copiesClauses, constraintClause, clauses, signedWords}
+use Rattle.bits.specs.inner.Sets.{With}
+use Rattle.program.specs.declared.ProgramTable.{ProgramTable}
+use Rattle.writer.specs.inner.Wrote.{Wrote}
+use Rattle.writer.proofs.Writing.{Left, left-start, left-turn, left-end, left-length, wrote-append}
+use Rattle.copies.specs.inner.Tables.{Values, Overlaid}
+use Rattle.copies.specs.inner.Bodies.{bodiesBy}
+use Rattle.copies.specs.inner.Made.{EntryAt, Made}
+use Rattle.copies.specs.inner.Kept.{Inside, Kept}
+use Rattle.copies.specs.inner.Ready.{Ready, unfoldedIn}
+use Rattle.copies.specs.inner.Totals.{keptBodies}
+use Rattle.copies.specs.declared.EntryCopy.{EntryCopy}
+use Rattle.copies.specs.declared.KeptRules.{KeptRules}
+use Rattle.copies.proofs.Keeping.{bodies-number}
+use Rattle.copies.proofs.Emitting.{Emitting, emitting-start, emitting-end, emitting-entry, emitting-fresh, emitting-var, emitting-vars, emitting-here, emitting-turn}
+use Rattle.copies.proofs.Sizes.{copies-number, rules-short, atoms-short, constraints-by-last, constraints-few, constraints-short}
+use Rattle.rule_clauses.specs.inner.Literals.{SmallVariables}
+use Rattle.rule_clauses.proofs.Rule.{signed-append}
+use Rattle.clause_output.specs.inner.Ends.{rulesWords, firstWords, copyClauseWords, copiesClauseWords, backsWords, CopyPut}
+use Rattle.clause_output.specs.declared.Ends.{Ends}
+use Rattle.clause_output.proofs.Sizes.{first-words, copies-words, constraints-words}
+
+-- A copy.
+module _ (pos neg vars : List ℕ) (var : ℕ) (kept : KeptRules) (E : Ends) where
+  abbrev firsts : List ℤ
+  firsts = firstWords var (E .rule) (kept .rules)
+
+  abbrev seconds : List ℤ
+  seconds = rulesWords pos neg vars var (E .rule) (kept .entries) (kept .rules)
+
+  copy-is : copyClauseWords pos neg vars (E .rule) var kept ≡ firsts ++ seconds
+  unfolding copyClauseWords copyClauses signedWords flatMap firstWords rulesWords
+  copy-is = ap (λ k. firstWords var (E .rule) k ++ seconds) (bodies-number pos neg vars (kept .entries) (kept .rules))
+
+  first-size : length firsts ≡ kept .rules + 2
+  unfolding firstWords
+  first-size = first-words var (E .rule) (kept .rules)
+
+  copy-size : length (copyClauseWords pos neg vars (E .rule) var kept) ≡ kept .rules + 2 + length seconds
+  copy-size = let e = ap length copy-is ∙ length-append firsts seconds in let f = first-size in omega arith
+
+  pub copy-numbers : E .rule < 1000000 → Inside (kept .entries) (kept .rules) → E .rule + kept .rules < 2147483648
+  copy-numbers l I = let f = I .few in omega arith
+
+  module _ (room : E .at + length (copyClauseWords pos neg vars (E .rule) var kept) < 4294967296) where
+    pub copy-first : E .at + kept .rules + 2 < 4294967296
+    copy-first = let e = copy-size in omega arith
+
+    pub copy-second : (old mid : List ℤ) (next : ℕ) → Wrote old (E .at) (firstWords var (E .rule) (kept .rules)) mid next
+        → next + length (rulesWords pos neg vars var (E .rule) (kept .entries) (kept .rules)) < 4294967296
+    copy-second old mid next W = let e = copy-size in let f = first-size in let m = W .moved in omega arith
+
+  pub copy-put : (old mid new : List ℤ) (next r : ℕ) → Wrote old (E .at) (firstWords var (E .rule) (kept .rules)) mid next
+      → Wrote mid next (rulesWords pos neg vars var (E .rule) (kept .entries) (kept .rules)) new r → CopyPut pos neg vars var kept old new E (record { at = r; rule = E .rule + kept .rules })
+  copy-put old mid new next r W K = record { wrote = subst (λ ws. Wrote old (E .at) ws new r) (sym copy-is) (wrote-append _ _ _ _ _ _ _ _ W K); rule = refl }
+
+-- The clauses of the copies that are left, and how many rules have a variable.
+pub record ClausesLeft (old ws cur : List ℤ) (E : Ends) (copies : List Copy) : Type 0 where
+  pub few : E .rule + length (keptBodies copies) ≤ 82561
+  pub rest : Left old 0 ws cur (E .at) (signedWords (copiesClauses (E .rule) copies))
+
+module _ (t : ProgramTable) (q : List ℕ) (old : List ℤ) where
+  abbrev total : List ℤ
+  total = copiesClauseWords (unfoldedIn t q)
+
+  abbrev pub ClausesWritten : ℕ → ℕ → List ℕ → ℕ → List ℤ → Ends → Type 0
+  ClausesWritten i copied latest fresh cur E = Emitting t q i copied latest fresh (ClausesLeft old total cur E)
+
+module _ (t : ProgramTable) (names sets q : List ℕ) (R : Ready t names sets q) (old : List ℤ) where
+  copies-bound : length (copiesClauseWords (unfoldedIn t q)) ≤ 42435840
+  unfolding copiesClauseWords
+  copies-bound =
+      let e = copies-words (suc (length (unfoldedIn t q .copies))) (unfoldedIn t q .copies) in
+      let f = copies-number t names sets q R in
+      let g = R .short in
+      let h = rules-short t names sets q R in
+      let i = atoms-short t names sets q R in
+      omega arith
+
+  pub copies-start : ClausesWritten t q old 3 0 (replicate 64 0) (t .atoms) old (record { at = 0; rule = length q - 2 })
+  unfolding copiesClauseWords
+  copies-start =
+      let k = copies-number t names sets q R in
+      let l = R .long in
+      let s = R .short in
+      let g = rules-short t names sets q R in
+      let e : length q - 2 ≡ suc (length (unfoldedIn t q .copies)) = omega arith in
+      emitting-start t names sets q R (ClausesLeft old (total t q old) old (record { at = 0; rule = length q - 2 }))
+      (record { few = omega arith; rest = left-start old 0 (total t q old) _ (ap (λ d. signedWords (copiesClauses d (unfoldedIn t q .copies))) e) })
+
+  module _ (i copied : ℕ) (latest : List ℕ) (fresh : ℕ) (cur : List ℤ) (E : Ends) (W : ClausesWritten t q old i copied latest fresh cur E) where
+    abbrev Rest : List Copy → Type 0
+    Rest = ClausesLeft old (total t q old) cur E
+
+    pub copies-length : length cur ≡ length old
+    copies-length = left-length old 0 (total t q old) cur _ (E .at) (W .left .rest .rest .rest)
+
+    pub copies-end : length q ≤ i → Wrote old 0 (copiesClauseWords (unfoldedIn t q)) cur (E .at)
+    unfolding copiesClauses signedWords flatMap
+    copies-end l = left-end old 0 (total t q old) cur [] (E .at) (emitting-end t names sets q R i copied latest fresh Rest W l .rest) refl
+
+    module _ (within : i < length q) where
+      pub copies-entry : EntryAt names q i
+      copies-entry = emitting-entry t names sets q R i copied latest fresh Rest W within
+
+      pub copies-fresh : fresh < 4294967295
+      copies-fresh = emitting-fresh t names sets q R i copied latest fresh Rest W within
+
+      pub copies-rule : E .rule < 1000000
+      copies-rule = let f = W .left .rest .rest .few in omega arith
+
+      module _ (c : EntryCopy) (M : Made q i names sets fresh c) where
+        pub copies-var : c .var < 2147483648
+        copies-var = let l = emitting-var t names sets q R i copied latest fresh Rest W within c M in omega arith
+
+        module _ (k : KeptRules) (K : Kept (t .heads) (t .pos) (t .neg) (t .rules) (c .atom) (c .component) copied k)
+            (lasts vars : List ℕ) (F : Values last lasts) (O : Overlaid (c .component) latest lasts vars) where
+          abbrev bodies : List Body
+          bodies = bodiesBy (t .pos) (t .neg) vars (k .entries) (k .rules)
+
+          abbrev copy : Copy
+          copy = record { atom = c .atom; var = c .var; kept = bodies }
+
+          abbrev here : List ℤ
+          here = copyClauseWords (t .pos) (t .neg) vars (E .rule) (c .var) k
+
+          pub copies-small : SmallVariables vars
+          copies-small = record { low = λ b l. let h = emitting-vars t names sets q R i copied latest fresh Rest W within c M k K lasts vars F O b l in omega arith }
+
+          step : (cs : List Copy) → signedWords (copiesClauses (E .rule) (copy ∷ cs)) ≡ here ++ signedWords (copiesClauses (E .rule + k .rules) cs)
+          unfolding copiesClauses copyClauses copyClauseWords
+          step cs =
+              signed-append (copyClauses (E .rule) copy) (copiesClauses (E .rule + length bodies) cs)
+              ∙ ap (λ n. here ++ signedWords (copiesClauses (E .rule + n) cs)) (bodies-number (t .pos) (t .neg) vars (k .entries) (k .rules))
+
+          pub copies-room : E .at + length (copyClauseWords (t .pos) (t .neg) vars (E .rule) (c .var) k) < 4294967296
+          copies-room =
+              let S = emitting-here t names sets q R i copied latest fresh Rest W within c M k K lasts vars F O in
+              let e = S .holds .rest .ends in
+              let f = ap length (step (S .copies)) ∙ length-append here (signedWords (copiesClauses (E .rule + k .rules) (S .copies))) in
+              let g = copies-bound in
+              omega arith
+
+          pub copies-turn : (marked : ℕ) → With copied (c .atom) marked → (new : List ℤ) (E′ : Ends) → CopyPut (t .pos) (t .neg) vars (c .var) k cur new E E′
+              → ClausesWritten t q old (i + 1) marked (set latest (c .atom) (c .var)) (c .fresh) new E′
+          unfolding flatMap
+          copies-turn marked X new E′ P =
+              emitting-turn t names sets q R i copied latest fresh Rest W within c M k K lasts vars F O marked (ClausesLeft old (total t q old) new E′) X one
+            where
+              counted : (cs : List Copy) → length (keptBodies (copy ∷ cs)) ≡ k .rules + length (keptBodies cs)
+              counted cs = let e = length-append bodies (keptBodies cs) in let f = bodies-number (t .pos) (t .neg) vars (k .entries) (k .rules) in omega arith
+
+              one : (cs : List Copy) → ClausesLeft old (total t q old) cur E (copy ∷ cs) → ClausesLeft old (total t q old) new E′ cs
+              one cs L =
+                  record {
+                    few = let l = L .few in let v = P .rule in let e = counted cs in omega arith;
+                    rest = subst (λ d. Left old 0 (total t q old) new (E′ .at) (signedWords (copiesClauses d cs))) (sym (P .rule))
+                        (left-turn old 0 (total t q old) cur new here _ _ (E .at) (E′ .at) (L .rest) (step cs) (P .wrote));
+                  }
+
+  -- All clauses.
+  constraints-written : (lasts : List ℕ) → Values last lasts
+      → backsWords (t .pos) (t .neg) lasts (t .rules) (t .rules + t .constraints) ≡ signedWords (map constraintClause (unfoldedIn t q .constraints))
+  unfolding backsWords
+  constraints-written lasts F = ap (λ bs. signedWords (map constraintClause bs)) (constraints-by-last t names sets q R lasts F)
+
+  module _ (lasts : List ℕ) (F : Values last lasts) (mid : List ℤ) (at : ℕ) (W : Wrote old 0 (copiesClauseWords (unfoldedIn t q)) mid at) where
+    pub all-room : at + length (backsWords (t .pos) (t .neg) lasts (t .rules) (t .rules + t .constraints)) < 4294967296
+    all-room =
+        let w = W .moved in
+        let a = copies-bound in
+        let b = constraints-words (unfoldedIn t q .constraints) in
+        let c = constraints-short t names sets q R in
+        let d = constraints-few t names sets q R in
+        let e = ap length (constraints-written lasts F) in
+        omega arith
+
+    pub all-wrote : (new : List ℤ) (r : ℕ) → Wrote mid at (backsWords (t .pos) (t .neg) lasts (t .rules) (t .rules + t .constraints)) new r → Wrote old 0 (signedWords (clauses (unfoldedIn t q))) new r
+    unfolding clauses copiesClauseWords
+    all-wrote new r K =
+        subst (λ ws. Wrote old 0 ws new r)
+        (ap (λ ws. copiesClauseWords (unfoldedIn t q) ++ ws) (constraints-written lasts F)
+        ∙ sym (signed-append (copiesClauses (suc (length (unfoldedIn t q .copies))) (unfoldedIn t q .copies)) (map constraintClause (unfoldedIn t q .constraints))))
+        (wrote-append _ _ _ _ _ _ _ _ W K)

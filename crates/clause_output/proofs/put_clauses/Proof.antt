@@ -1,0 +1,34 @@
+-- `clause_output::put_clauses` meets its contract, one law for each way through it.
+use Rattle.clause_output.proofs.Whole.{all-room, all-wrote}
+use borrow.Author.Needs.{needs}
+use Rattle.clause_output.proofs.put_clauses.Statement.{statement}
+use Rattle.clause_output.proofs.put_clauses.Tie as tie
+
+last-copies-requires : tie.Need-last-copies-requires
+last-copies-requires c κs = search needs
+
+put-copies-requires : tie.Need-put-copies-requires
+put-copies-requires c κs = search needs
+
+add-put-backs : tie.Need-add-put-backs
+add-put-backs c = search needs
+
+put-backs-requires : tie.Need-put-backs-requires
+put-backs-requires c κs = (search needs, search needs, search (needs, all-room))
+
+same-length : tie.Need-same-length
+same-length c = search needs
+
+returns : tie.Need-returns
+returns c = search (needs, all-wrote)
+
+pub put-clauses-spec : {M : Type 1} → statement M
+put-clauses-spec =
+    tie.close
+    (tie.spec
+    last-copies-requires
+    put-copies-requires
+    add-put-backs
+    put-backs-requires
+    same-length
+    returns)

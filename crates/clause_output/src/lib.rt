@@ -1,0 +1,235 @@
+// Writing the completion clauses of the unfolded program.
+use bits::with;
+use copies::KeptRules;
+use copies::copy_at;
+use copies::entry_at;
+use copies::kept_rules;
+use copies::last_copies;
+use copies::last_places;
+use copies::overlay;
+use copies::totals_of;
+use program::ProgramTable;
+use rule_clauses::put_back;
+use rule_clauses::put_rule;
+use writer::put_negated;
+use writer::put_plain;
+ghost use Prim.Native.Nat.{_+_, _≤_, _<_};
+ghost use lib.ListN.{length};
+ghost use Rattle.unfolding.specs.Unfolded.{last};
+ghost use Rattle.unfolding.specs.Clauses.{clauses, signedWords};
+ghost use Rattle.writer.specs.inner.Wrote.{Wrote};
+ghost use Rattle.copies.specs.inner.Tables.{Values};
+ghost use Rattle.copies.specs.inner.Kept.{Inside};
+ghost use Rattle.copies.specs.inner.Ready.{Ready, unfoldedIn};
+ghost use Rattle.rule_clauses.specs.inner.Literals.{SmallVariables};
+ghost use Rattle.clause_output.specs.inner.Ends.{rulesWords, numbersWords};
+ghost use Rattle.clause_output.specs.inner.Ends.{firstWords, copyClauseWords, copiesClauseWords, backsWords, CopyPut, NumbersOf};
+
+// The variables of a copy and of its first rule.
+pub struct CopyVariables {
+    pub var: u32,
+    pub rule: u32,
+}
+
+// The clauses of a copy's rules; their variables are counted on.
+fn put_rules<'a>(
+    out: &mut [i32],
+    at: usize,
+    copy: CopyVariables,
+    kept: KeptRules,
+    pos: &'a [u64; 128],
+    neg: &'a [u64; 128],
+    vars: &[u32; 64],
+    lasts: &[u32; 64],
+) -> usize
+    requires { ⌜ SmallVariables (now vars) × Values last (now lasts) × Inside (kept .entries) (kept .rules)
+        × (copy .var < 2147483648) × (copy .rule + kept .rules < 2147483648)
+        × (at + length (rulesWords (now pos) (now neg) (now vars) (copy .var) (copy .rule) (kept .entries) (kept .rules))
+        < 4294967296) ⌝ }
+    ensures { λ r. ⌜ Wrote (now (out .entry)) at
+        (rulesWords (now (pos .entry)) (now (neg .entry)) (now (vars .entry)) (copy .var) (copy .rule) (kept .entries) (kept .rules))
+        (now (out .exit)) r ⌝ }
+{
+    let k = kept.rules;
+    let entries = kept.entries;
+    let var = copy.var;
+    let mut rule = copy.rule;
+    let mut next = at;
+    let mut j = 0;
+    while j < k {
+        let i = entry_at(&entries, k, j);
+        next = put_rule(out, next, var, rule, pos[i], neg[i], vars, lasts);
+        rule += 1;
+        j += 1;
+    }
+    next
+}
+
+// The variables from .. to - 1.
+fn put_range(out: &mut [i32], at: usize, from: u32, to: u32) -> usize
+    requires { ⌜ (at + length (numbersWords from to) < 4294967296) × (to < 2147483648) ⌝ }
+    ensures { λ r. ⌜ Wrote (now (out .entry)) at (numbersWords from to) (now (out .exit)) r ⌝ }
+{
+    let mut next = at;
+    let mut v = from;
+    while v < to {
+        next = put_plain(out, next, v);
+        v += 1;
+    }
+    next
+}
+
+// The clause of -h and its rules' variables, which are d, d + 1 and on, k of them.
+fn put_first(out: &mut [i32], at: usize, h: u32, d: u32, k: u32) -> usize
+    requires { ⌜ (at + k + 2 < 4294967296) × (h < 2147483648) × (d + k < 2147483648) ⌝ }
+    ensures { λ r. ⌜ Wrote (now (out .entry)) at (firstWords h d k) (now (out .exit)) r ⌝ }
+{
+    let second = put_negated(out, at, h);
+    let end = put_range(out, second, d, d + k);
+    put_plain(out, end, 0)
+}
+
+// Where the next word goes, and the variable of the next rule.
+pub struct Ends {
+    pub at: usize,
+    pub rule: u32,
+}
+
+// The clauses of a copy.
+fn put_copy<'a>(
+    out: &mut [i32],
+    ends: Ends,
+    var: u32,
+    kept: KeptRules,
+    pos: &'a [u64; 128],
+    neg: &'a [u64; 128],
+    vars: &[u32; 64],
+    lasts: &[u32; 64],
+) -> Ends
+    requires { ⌜ SmallVariables (now vars) × Values last (now lasts) × Inside (kept .entries) (kept .rules)
+        × (var < 2147483648) × (ends .rule < 1000000)
+        × (ends .at + length (copyClauseWords (now pos) (now neg) (now vars) (ends .rule) var kept) < 4294967296) ⌝ }
+    ensures { λ r. ⌜ CopyPut (now (pos .entry)) (now (neg .entry)) (now (vars .entry)) var kept
+        (now (out .entry)) (now (out .exit)) ends r ⌝ }
+{
+    let k = kept.rules as u32;
+    let rule = ends.rule;
+    let next = put_first(out, ends.at, var, rule, k);
+    let at = put_rules(
+        out,
+        next,
+        CopyVariables { var, rule },
+        kept,
+        pos,
+        neg,
+        vars,
+        lasts,
+    );
+    Ends { at, rule: rule + k }
+}
+
+// The clauses of all copies, in sequence order.
+fn put_copies(
+    out: &mut [i32],
+    t: ProgramTable,
+    q: &[u8],
+    names: &[u8; 64],
+    sets: &[u64; 64],
+    lasts: &[u32; 64],
+) -> usize
+    requires { ⌜ Ready t (now names) (now sets) (now q) × Values last (now lasts) ⌝ }
+    ensures { λ r. ⌜ Wrote (now (out .entry)) 0 (copiesClauseWords (unfoldedIn t (now (q .entry)))) (now (out .exit)) r ⌝ }
+{
+    let rules = t.rules;
+    let table = last_places(q);
+    let places = table.places;
+    let mut latest = [0u32; 64];
+    let mut copied: u64 = 0;
+    let mut fresh = t.atoms as u32;
+    let mut ends = Ends {
+        at: 0,
+        rule: (q.len() - 2) as u32,
+    };
+    let mut i = 3;
+    while i < q.len() {
+        let copy = copy_at(q, i, names, sets, &places, fresh);
+        let a = copy.atom;
+        let kept = kept_rules(&t.heads, &t.pos, &t.neg, rules, a, copy.component, copied);
+        let mut vars = *lasts;
+        overlay(&mut vars, &latest, copy.component);
+        ends = put_copy(out, ends, copy.var, kept, &t.pos, &t.neg, &vars, lasts);
+        latest[a] = copy.var;
+        copied = with(copied, a);
+        fresh = copy.fresh;
+        i += 1;
+    }
+    ends.at
+}
+
+// The clauses of the constraints at the entries from .. to - 1, by last copies.
+fn put_backs<'a>(
+    out: &mut [i32],
+    at: usize,
+    from: usize,
+    to: usize,
+    pos: &'a [u64; 128],
+    neg: &'a [u64; 128],
+    lasts: &[u32; 64],
+) -> usize
+    requires { ⌜ Values last (now lasts) × (to ≤ 128)
+        × (at + length (backsWords (now pos) (now neg) (now lasts) from to) < 4294967296) ⌝ }
+    ensures { λ r. ⌜ Wrote (now (out .entry)) at
+        (backsWords (now (pos .entry)) (now (neg .entry)) (now (lasts .entry)) from to) (now (out .exit)) r ⌝ }
+{
+    let mut next = at;
+    let mut j = from;
+    while j < to {
+        next = put_back(out, next, pos[j], neg[j], lasts, lasts);
+        j += 1;
+    }
+    next
+}
+
+// All clauses.
+pub fn put_clauses(
+    out: &mut [i32],
+    t: ProgramTable,
+    q: &[u8],
+    names: &[u8; 64],
+    sets: &[u64; 64],
+) -> usize
+    requires { ⌜ Ready t (now names) (now sets) (now q) ⌝ }
+    ensures { λ r. ⌜ Wrote (now (out .entry)) 0 (signedWords (clauses (unfoldedIn t (now (q .entry))))) (now (out .exit)) r ⌝ }
+{
+    let from = t.rules;
+    let constraints = t.constraints;
+    let table = last_copies();
+    let lasts = table.vars;
+    let at = put_copies(out, t, q, names, sets, &lasts);
+    put_backs(out, at, from, from + constraints, &t.pos, &t.neg, &lasts)
+}
+
+// How many words the clauses have, how many variables, and how many clauses there are.
+pub struct Numbers {
+    pub words: usize,
+    pub variables: usize,
+    pub clauses: usize,
+}
+
+// A copy has two words and one clause of its own, a rule six words, two clauses and a variable, an atom of its body four words
+// and a clause; a constraint is one clause, of one word and one for each atom.
+pub fn numbers_of(t: ProgramTable, q: &[u8], names: &[u8; 64], sets: &[u64; 64]) -> Numbers
+    requires { ⌜ Ready t (now names) (now sets) (now q) ⌝ }
+    ensures { λ r. ⌜ NumbersOf (unfoldedIn t (now (q .entry))) r ⌝ }
+{
+    let count = q.len() - 3;
+    let totals = totals_of(t, q, names, sets);
+    let rules = totals.rules;
+    let atoms = totals.atoms;
+    let constraints = totals.constraints;
+    Numbers {
+        words: 2 * count + 6 * rules + 4 * atoms + constraints + totals.literals,
+        variables: count + rules,
+        clauses: count + 2 * rules + atoms + constraints,
+    }
+}

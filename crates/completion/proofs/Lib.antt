@@ -1,3 +1,0 @@
-pub mod Rules
-pub mod Sizes
-pub mod Whole

@@ -1,0 +1,125 @@
+-- The rules that a copy keeps are those of the table's kept entries.
+use mathlib.Core.Bool.{Bool, true, not, _&&_, _||_}
+use mathlib.Core.List.{List, [], _∷_, map, map-map, List·Memᴰ, Memᴰ·map}
+use mathlib.Core.Path.{_≡_, refl, sym, _∙_, ap, ap₂}
+use Prim.Native.Nat.{ℕ, _<_}
+use native.Mathlib.Omega.{arith}
+use borrow.Author.Tests.{eqb-true, eq-eqb, lt-ltb}
+use lib.Dec.{eqb, ltb}
+use lib.ListN.{length, length-map, getD}
+use Rattle.lists.specs.Lists.{all, below, filter, range}
+use Rattle.lists.proofs.Bools.{by-bool, bool-ext, and-left, and-right}
+use Rattle.lists.proofs.Members.{all-at, all-cong, map-cong, filter-cong, filter-out, range-in, range-out, below-at}
+use Rattle.lists.proofs.Nodup.{length-range}
+use Rattle.asp.specs.Program.{Body, Rule, Program, bodyBelow, ruleBelow, wellFormed}
+use Rattle.unfolding.specs.Graph.{sameComponent, component}
+use Rattle.unfolding.specs.Unfolded.{Copy, last, copied, usable, replaced, renamed, isKept, keptFor}
+use Rattle.unfolding.proofs.Reach.{same-refl, component-smallest, component-same, component-joins}
+use Rattle.bits.specs.inner.Sets.{has}
+use Rattle.bits.specs.inner.Visited.{listed}
+use Rattle.program.specs.inner.Held.{bodyOf, ruleOf, rulesAt, programIn}
+use Rattle.program.specs.declared.ProgramTable.{ProgramTable}
+use Rattle.copies.specs.inner.Bodies.{bodyBy, entryBody, bodiesBy, atomCount}
+use Rattle.copies.specs.inner.Made.{componentSet}
+use Rattle.copies.specs.inner.Kept.{keeps, keptEntries, Kept}
+use Rattle.copies.specs.inner.Ready.{Ready}
+use Rattle.copies.specs.declared.KeptRules.{KeptRules}
+
+filter-map : {A B : Type 0} (p : B → Bool) (f : A → B) (l : List A) → filter p (map f l) ≡ map f (filter (λ x. p (f x)) l)
+unfolding filter
+filter-map p f [] = refl
+filter-map p f (x ∷ l) = by-bool (p (f x)) (λ t. rw t (ap (λ ys. f x ∷ ys) (filter-map p f l))) (λ z. rw z (filter-map p f l))
+
+-- Renamed bodies have as many atoms.
+pub atoms-renamed : (f : ℕ → ℕ) (g : ℕ → Body) (l : List ℕ) → atomCount (map (λ i. renamed f (g i)) l) ≡ atomCount (map g l)
+unfolding atomCount renamed
+atoms-renamed f g [] = refl
+atoms-renamed f g (i ∷ l) =
+    let p = length-map (g i .pos) f in
+    let n = length-map (g i .neg) last in
+    let e = atoms-renamed f g l in
+    omega arith
+
+module _ (t : ProgramTable) (names sets q : List ℕ) (R : Ready t names sets q) where
+  abbrev P : Program
+  P = programIn t
+
+  abbrev wf : wellFormed P ≡ true
+  wf = R .readable .formed
+
+  -- The positive atoms of a rule are atoms of the table.
+  rule-low : (i : ℕ) → i < t .rules → below (t .atoms) (listed (getD (t .pos) i 0)) ≡ true
+  unfolding programIn wellFormed ruleBelow bodyBelow rulesAt ruleOf bodyOf
+  rule-low i l =
+      let rule : ℕ → Rule = λ i. ruleOf (getD (t .heads) i 0) (getD (t .pos) i 0) (getD (t .neg) i 0) in
+      let r = all-at (ruleBelow (t .atoms)) (P .rules) (and-left (all (ruleBelow (t .atoms)) (P .rules)) (all (bodyBelow (t .atoms)) (P .constraints)) wf) (rule i)
+      (Memᴰ·map rule (range-in 0 (t .rules) i (omega arith) (omega arith))) in
+      let b = and-right (ltb (getD (t .heads) i 0) (t .atoms)) (bodyBelow (t .atoms) (bodyOf (getD (t .pos) i 0) (getD (t .neg) i 0))) r in
+      and-left (below (t .atoms) (listed (getD (t .pos) i 0))) (below (t .atoms) (listed (getD (t .neg) i 0))) b
+
+  pub name-low : (a : ℕ) → a < t .atoms → getD names a 0 < 64
+  unfolding programIn
+  name-low a l = let e = R .named .name a l in let f = component-smallest P wf a a l (same-refl P wf a l) in let n = R .readable .atoms in omega arith
+
+  -- The set of an atom's component.
+  pub component-has : (a b : ℕ) → a < t .atoms → b < t .atoms → has (componentSet names sets a) b ≡ sameComponent P a b
+  unfolding programIn componentSet
+  component-has a b l h =
+      R .grouped .members (getD names a 0) (name-low a l) b
+      ∙ rw (lt-ltb b (t .atoms) h, R .named .name a l, R .named .name b h)
+      (bool-ext
+      (λ e. component-joins P wf a b l h (sym (eqb-true (component P b) (component P a) e)))
+      (λ s. eq-eqb (component P b) (component P a) (sym (component-same P wf a b l s))))
+
+  module _ (past : List Copy) (copied-set : ℕ) (marks : (b : ℕ) → has copied-set b ≡ copied past b) (a : ℕ) (within : a < t .atoms) where
+    abbrev entries : List ℕ
+    entries = keptEntries (t .heads) (t .pos) (t .rules) a (componentSet names sets a) copied-set
+
+    abbrev body : ℕ → Body
+    body i = bodyOf (getD (t .pos) i 0) (getD (t .neg) i 0)
+
+    same-test : (i : ℕ) → i < t .rules → isKept P past a (ruleOf (getD (t .heads) i 0) (getD (t .pos) i 0) (getD (t .neg) i 0))
+        ≡ keeps a (componentSet names sets a) copied-set (getD (t .heads) i 0) (getD (t .pos) i 0)
+    unfolding isKept keeps ruleOf bodyOf usable
+    same-test i l =
+        ap (λ (x : Bool). eqb (getD (t .heads) i 0) a && x)
+        (all-cong (usable P past a) (λ b. not (has (componentSet names sets a) b) || has copied-set b) (listed (getD (t .pos) i 0)) each)
+      where
+        each : (b : ℕ) → List·Memᴰ b (listed (getD (t .pos) i 0)) → usable P past a b ≡ (not (has (componentSet names sets a) b) || has copied-set b)
+        each b m =
+            let h = below-at (t .atoms) (listed (getD (t .pos) i 0)) (rule-low i l) b m in
+            ap₂ (λ (x y : Bool). not x || y) (sym (component-has a b within h)) (sym (marks b))
+
+    pub kept-are : keptFor P past a ≡ map (λ i. renamed (replaced P past a) (body i)) entries
+    unfolding keptFor programIn rulesAt keptEntries ruleOf
+    kept-are =
+        let rule : ℕ → Rule = λ i. ruleOf (getD (t .heads) i 0) (getD (t .pos) i 0) (getD (t .neg) i 0) in
+        ap (map (λ (r : Rule). renamed (replaced P past a) (r .body))) (filter-map (isKept P past a) rule (range 0 (t .rules)))
+        ∙ (map-map (λ (r : Rule). renamed (replaced P past a) (r .body)) rule (filter (λ i. isKept P past a (rule i)) (range 0 (t .rules)))
+        ∙ ap (map (λ i. renamed (replaced P past a) (body i)))
+        (filter-cong (λ i. isKept P past a (rule i)) (λ i. keeps a (componentSet names sets a) copied-set (getD (t .heads) i 0) (getD (t .pos) i 0)) (range 0 (t .rules))
+        (λ i m. let r = range-out 0 (t .rules) i m .high in same-test i (omega arith))))
+
+    module _ (r : KeptRules) (K : Kept (t .heads) (t .pos) (t .neg) (t .rules) a (componentSet names sets a) copied-set r) where
+      pub kept-number : length (keptFor P past a) ≡ r .rules
+      kept-number =
+          ap length kept-are
+          ∙ (length-map entries (λ i. renamed (replaced P past a) (body i))
+          ∙ (ap length (sym (K .entries)) ∙ (length-map (range 0 (r .rules)) (λ j. getD (r .entries) j 0) ∙ length-range 0 (r .rules))))
+
+      pub kept-atoms : atomCount (keptFor P past a) ≡ r .atoms
+      kept-atoms = ap atomCount kept-are ∙ (atoms-renamed (replaced P past a) body entries ∙ sym (K .atoms))
+
+      pub kept-bodies : (vars : List ℕ) → ((b : ℕ) → b < t .atoms → getD vars b 0 ≡ replaced P past a b) → keptFor P past a ≡ bodiesBy (t .pos) (t .neg) vars (r .entries) (r .rules)
+      unfolding bodiesBy keptEntries entryBody bodyBy renamed bodyOf
+      kept-bodies vars h =
+          kept-are
+          ∙ (map-cong (λ i. renamed (replaced P past a) (body i)) (entryBody (t .pos) (t .neg) vars) entries each
+          ∙ (ap (map (entryBody (t .pos) (t .neg) vars)) (sym (K .entries)) ∙ map-map (entryBody (t .pos) (t .neg) vars) (λ j. getD (r .entries) j 0) (range 0 (r .rules))))
+        where
+          each : (i : ℕ) → List·Memᴰ i entries → renamed (replaced P past a) (body i) ≡ entryBody (t .pos) (t .neg) vars i
+          each i m =
+              let f = filter-out (λ i. keeps a (componentSet names sets a) copied-set (getD (t .heads) i 0) (getD (t .pos) i 0)) (range 0 (t .rules)) i m .0 in
+              let l : i < t .rules = let x = range-out 0 (t .rules) i f .high in omega arith in
+              ap (λ ps. record { pos = ps; neg = map last (listed (getD (t .neg) i 0)) })
+              (map-cong (replaced P past a) (λ b. getD vars b 0) (listed (getD (t .pos) i 0)) (λ b k. sym (h b (below-at (t .atoms) (listed (getD (t .pos) i 0)) (rule-low i l) b k))))

@@ -1,0 +1,17 @@
+-- `copies::next_if` meets its contract, one law for each way through it.
+use Rattle.copies.proofs.Keeping.{next-yes}
+use borrow.Author.Needs.{needs}
+use Rattle.copies.proofs.next_if.Statement.{statement}
+use Rattle.copies.proofs.next_if.Tie as tie
+
+add-result : tie.Need-add-result
+add-result c = search needs
+
+returns : tie.Need-returns
+returns c = search (needs, next-yes)
+
+returns-2 : tie.Need-returns-2
+returns-2 c = search needs
+
+pub next-if-spec : {M : Type 1} → statement M
+next-if-spec = tie.close (tie.spec add-result returns returns-2)

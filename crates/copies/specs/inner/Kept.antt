@@ -1,0 +1,37 @@
+-- Which rules of a table are kept for a copy.
+use mathlib.Core.Bool.{Bool, not, _&&_, _||_}
+use mathlib.Core.List.{List, map}
+use mathlib.Core.Path.{_≡_}
+use Prim.Native.Nat.{ℕ, _≤_, _<_}
+use lib.Dec.{eqb}
+use lib.ListN.{getD}
+use Rattle.lists.specs.Lists.{all, filter, range}
+use Rattle.bits.specs.inner.Sets.{has}
+use Rattle.bits.specs.inner.Visited.{listed}
+use Rattle.program.specs.inner.Held.{bodyOf}
+use Rattle.copies.specs.inner.Bodies.{atomCount}
+use Rattle.copies.specs.declared.KeptRules.{KeptRules}
+
+-- A rule is kept for a copy of a: a is its head, and its positive atoms of a's component have copies.
+unfoldable pub keeps : ℕ → ℕ → ℕ → ℕ → ℕ → Bool
+keeps a component copied head pos = eqb head a && all (λ b. not (has component b) || has copied b) (listed pos)
+
+-- The entries of the rules kept for a copy of a, of the first so many.
+unfoldable pub keptEntries : List ℕ → List ℕ → ℕ → ℕ → ℕ → ℕ → List ℕ
+keptEntries heads pos rules a component copied = filter (λ i. keeps a component copied (getD heads i 0) (getD pos i 0)) (range 0 rules)
+
+-- The first k numbers listed are entries of a table.
+pub record Inside (entries : List ℕ) (k : ℕ) : Type 0 where
+  pub few : k ≤ 128
+  pub low : (j : ℕ) → j < k → getD entries j 0 < 128
+
+-- The number listed at j, an entry of a table.
+pub record ListedAt (entries : List ℕ) (j r : ℕ) : Type 0 where
+  pub is : r ≡ getD entries j 0
+  pub low : r < 128
+
+-- The rules kept for a copy of a, and how many atoms their bodies have.
+pub record Kept (heads pos neg : List ℕ) (rules a component copied : ℕ) (r : KeptRules) : Type 0 where
+  pub entries : map (λ j. getD (r .entries) j 0) (range 0 (r .rules)) ≡ keptEntries heads pos rules a component copied
+  pub atoms : r .atoms ≡ atomCount (map (λ i. bodyOf (getD pos i 0) (getD neg i 0)) (keptEntries heads pos rules a component copied))
+  pub inside : Inside (r .entries) (r .rules)

@@ -1,0 +1,54 @@
+-- What the questions about a sheet and a sequence promise: the refusal, and what is known where there is none.
+use mathlib.Core.Bool.{true}
+use mathlib.Core.List.{List}
+use mathlib.Core.Path.{_≡_}
+use Prim.Native.Nat.{ℕ, _≤_}
+use Rattle.asp.specs.Program.{Program}
+use Rattle.unfolding.specs.Chain.{passes}
+use Rattle.sheet.specs.Questions.{ask, _then_}
+use Rattle.sheet.specs.Format.{atomsByte, recordsByte}
+use Rattle.sheet.specs.inner.Walk.{formQuestions}
+use Rattle.sheet.specs.Sequence.{sequenceFits, entries}
+use Rattle.sheet.specs.Sheet.{program}
+use Rattle.sheet.specs.declared.Limits.{Limits}
+use Rattle.program.specs.inner.Held.{programIn, Readable}
+use Rattle.components.specs.Limit.{componentsFit}
+use Rattle.components.specs.inner.Reachability.{ComponentsOf}
+use Rattle.chains.specs.inner.Subsets.{Graph}
+use Rattle.core.specs.Questions.{readQuestions, testQuestions}
+use Rattle.core.specs.declared.Asked.{Asked}
+
+-- Limits that the tables have room for.
+pub record Supported (L : Limits) : Type 0 where
+  pub atoms : L .atoms ≤ 64
+  pub records : L .records ≤ 128
+  pub component : L .component ≤ 10
+  pub entries : L .entries ≤ 640
+
+-- A sheet that is not refused.
+pub record SheetAccepted (L : Limits) (s : List ℕ) (r : Asked) : Type 0 where
+  pub form : formQuestions L s ≡ 0
+  pub number : r .records ≡ recordsByte s
+  pub readable : Readable (r .program)
+  pub held : programIn (r .program) ≡ program s
+  pub graph : ComponentsOf (program s) (r .components)
+  pub limit : componentsFit (L .component) (program s) ≡ true
+
+-- The questions about a sheet.
+pub record SheetAsked (L : Limits) (s : List ℕ) (r : Asked) : Type 0 where
+  pub says : r .refusal ≡ readQuestions L s
+  pub accepted : r .refusal ≡ 0 → SheetAccepted L s r
+
+-- The questions about a sequence, of any program of n atoms with this graph.
+pub record SequenceAsked (L : Limits) (n : ℕ) (edges sets q : List ℕ) (r : ℕ) : Type 0 where
+  pub says : (P : Program) → Graph P n edges sets → r ≡ ask (sequenceFits L n q) 8 then ask (passes P (entries q)) 9
+
+-- A sheet and a sequence that are not refused.
+pub record BothAccepted (L : Limits) (s q : List ℕ) (r : Asked) : Type 0 where
+  pub sheet : SheetAccepted L s r
+  pub formed : sequenceFits L (atomsByte s) q ≡ true
+
+-- The questions about a sheet and a sequence.
+pub record BothAsked (L : Limits) (s q : List ℕ) (r : Asked) : Type 0 where
+  pub says : r .refusal ≡ testQuestions L s q
+  pub accepted : r .refusal ≡ 0 → BothAccepted L s q r

@@ -1,3 +1,0 @@
-pub mod Signed
-pub mod Lists
-pub mod Rule

@@ -1,4 +1,0 @@
-pub mod Collected
-pub mod Negated
-pub mod Returned
-pub mod SheetCounted

@@ -1,0 +1,192 @@
+// Reading a sheet, in one pass that asks questions 1 to 6 and gathers: a table of records by value.
+use bits::byte_at;
+use bits::with;
+use sheet::Limits;
+use sheet::is_complete;
+use sheet::kind_passes;
+ghost use mathlib.Core.Path.{_≡_};
+ghost use Prim.Native.Nat.{_≤_, _<_};
+ghost use Rattle.sheet.specs.inner.Walk.{Complete};
+ghost use Rattle.reader.specs.inner.Tabled.{ListRead, ListsRead, EntryRead, RecordsRead, SheetRead};
+
+// The set of a list of atoms, where the list passes question 6.
+pub struct Gather {
+    pub ok: bool,
+    pub set: u64,
+}
+
+fn gather_list(l: &[u8], n: usize) -> Gather
+    requires { ⌜ n ≤ 64 ⌝ }
+    ensures { λ r. ⌜ ListRead n (now (l .entry)) r ⌝ }
+{
+    let mut set: u64 = 0;
+    let mut low = 0;
+    let mut i = 0;
+    while i < l.len() {
+        let a = byte_at(l, i);
+        if a < low {
+            return Gather { ok: false, set: 0 };
+        }
+        if n <= a {
+            return Gather { ok: false, set: 0 };
+        }
+        set = with(set, a);
+        low = a + 1;
+        i += 1;
+    }
+    Gather { ok: true, set }
+}
+
+// A record, and where it ends; or the refusal.
+pub struct Entry {
+    pub refusal: u32,
+    pub end: usize,
+    pub kind: u8,
+    pub head: u8,
+    pub pos: u64,
+    pub neg: u64,
+}
+
+fn no_entry(refusal: u32) -> Entry
+    ensures { λ r. ⌜ r .refusal ≡ refusal ⌝ }
+{
+    Entry {
+        refusal,
+        end: 0,
+        kind: 0,
+        head: 0,
+        pos: 0,
+        neg: 0,
+    }
+}
+
+// The lists of a record that has passed questions 4 and 5.
+fn read_lists(s: &[u8], at: usize, n: usize) -> Entry
+    requires { ⌜ Complete (now s) at × (n ≤ 64) ⌝ }
+    ensures { λ r. ⌜ ListsRead n (now (s .entry)) at r ⌝ }
+{
+    let k = byte_at(s, at);
+    let kind = byte_at(s, at + 1);
+    let head = byte_at(s, at + 2);
+    let p = byte_at(s, at + 3);
+    let a = at + 4;
+    let middle = a + p;
+    let end = at + 1 + k;
+    let pos = gather_list(&s[a..middle], n);
+    if !pos.ok {
+        return no_entry(6);
+    }
+    let neg = gather_list(&s[middle..end], n);
+    if !neg.ok {
+        return no_entry(6);
+    }
+    Entry {
+        refusal: 0,
+        end,
+        kind: kind as u8,
+        head: head as u8,
+        pos: pos.set,
+        neg: neg.set,
+    }
+}
+
+// Questions 4, 5 and 6 of the record at an offset, and the record.
+fn read_record(s: &[u8], at: usize, n: usize) -> Entry
+    requires { ⌜ n ≤ 64 ⌝ }
+    ensures { λ r. ⌜ EntryRead n (now (s .entry)) at r ⌝ }
+{
+    if !is_complete(s, at) {
+        return no_entry(4);
+    }
+    if !kind_passes(s, at, n) {
+        return no_entry(5);
+    }
+    read_lists(s, at, n)
+}
+
+// The records of a sheet: the first `count` of each array.
+pub struct RecordTable {
+    pub refusal: u32,
+    pub atoms: usize,
+    pub count: usize,
+    pub kinds: [u8; 128],
+    pub heads: [u8; 128],
+    pub pos: [u64; 128],
+    pub neg: [u64; 128],
+}
+
+fn no_records(refusal: u32) -> RecordTable
+    ensures { λ r. ⌜ r .refusal ≡ refusal ⌝ }
+{
+    RecordTable {
+        refusal,
+        atoms: 0,
+        count: 0,
+        kinds: [0; 128],
+        heads: [0; 128],
+        pos: [0; 128],
+        neg: [0; 128],
+    }
+}
+
+// The m records from byte 5 on; then, does nothing remain?
+fn read_records(s: &[u8], n: usize, m: usize) -> RecordTable
+    requires { do ⌜ (5 ≤ (← ⟦s.len()⟧)) × (n ≤ 64) × (m ≤ 128) ⌝ }
+    ensures { λ r. ⌜ RecordsRead n m (now (s .entry)) r ⌝ }
+{
+    let mut kinds = [0u8; 128];
+    let mut heads = [0u8; 128];
+    let mut pos = [0u64; 128];
+    let mut neg = [0u64; 128];
+    let mut at = 5;
+    let mut j = 0;
+    while j < m {
+        let r = read_record(s, at, n);
+        if r.refusal != 0 {
+            return no_records(r.refusal);
+        }
+        kinds[j] = r.kind;
+        heads[j] = r.head;
+        pos[j] = r.pos;
+        neg[j] = r.neg;
+        at = r.end;
+        j += 1;
+    }
+    if at == s.len() {
+        return RecordTable {
+            refusal: 0,
+            atoms: n,
+            count: m,
+            kinds,
+            heads,
+            pos,
+            neg,
+        };
+    }
+    no_records(4)
+}
+
+// Questions 1 to 6, and the sheet's atoms and records.
+pub fn read_sheet(limits: Limits, s: &[u8]) -> RecordTable
+    requires { ⌜ (limits .atoms ≤ 64) × (limits .records ≤ 128) ⌝ }
+    ensures { λ r. ⌜ SheetRead limits (now (s .entry)) r ⌝ }
+{
+    if s.len() < 5 {
+        return no_records(1);
+    }
+    if byte_at(s, 0) != 1 {
+        return no_records(1);
+    }
+    if byte_at(s, 1) * 256 + byte_at(s, 2) != s.len() {
+        return no_records(2);
+    }
+    let n = byte_at(s, 3);
+    let m = byte_at(s, 4);
+    if limits.atoms < n {
+        return no_records(3);
+    }
+    if limits.records < m {
+        return no_records(3);
+    }
+    read_records(s, n, m)
+}

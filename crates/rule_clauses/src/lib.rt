@@ -1,0 +1,119 @@
+// Writing the clauses of one rule.
+use bits::lowest;
+use bits::rest;
+use writer::put_negated;
+use writer::put_plain;
+ghost use mathlib.Core.List.{[], _∷_};
+ghost use Prim.Native.Nat.{_+_, _<_};
+ghost use lib.ListN.{length};
+ghost use Rattle.unfolding.specs.Unfolded.{last};
+ghost use Rattle.unfolding.specs.Clauses.{signed, clauseWords};
+ghost use Rattle.bits.specs.inner.Visited.{listed};
+ghost use Rattle.writer.specs.inner.Wrote.{Wrote};
+ghost use Rattle.copies.specs.inner.Tables.{Values};
+ghost use Rattle.rule_clauses.specs.inner.Literals.{literalOf, pairsWords, flippedWords, bodyPairsWords, backWords, ruleWords, SmallVariables};
+
+// The literal v or -v.
+fn put_literal(out: &mut [i32], at: usize, plain: bool, v: u32) -> usize
+    requires { ⌜ (at < 4294967296) × (v < 2147483648) ⌝ }
+    ensures { λ r. ⌜ Wrote (now (out .entry)) at (signed (literalOf plain v) ∷ []) (now (out .exit)) r ⌝ }
+{
+    if plain {
+        return put_plain(out, at, v);
+    }
+    put_negated(out, at, v)
+}
+
+// A clause of two literals.
+fn put_two(out: &mut [i32], at: usize, x: bool, u: u32, y: bool, v: u32) -> usize
+    requires { ⌜ (at + 3 < 4294967296) × (u < 2147483648) × (v < 2147483648) ⌝ }
+    ensures { λ r. ⌜ Wrote (now (out .entry)) at (clauseWords (literalOf x u ∷ literalOf y v ∷ [])) (now (out .exit)) r ⌝ }
+{
+    let second = put_literal(out, at, x, u);
+    let end = put_literal(out, second, y, v);
+    put_plain(out, end, 0)
+}
+
+// For each atom of a body's positive or negative set the clause of -d and its literal.
+fn put_pairs(out: &mut [i32], at: usize, d: u32, x: u64, vars: &[u32; 64], plain: bool) -> usize
+    requires { ⌜ SmallVariables (now vars) × (d < 2147483648) × (at + length (pairsWords (now vars) plain d x) < 4294967296) ⌝ }
+    ensures { λ r. ⌜ Wrote (now (out .entry)) at (pairsWords (now (vars .entry)) plain d x) (now (out .exit)) r ⌝ }
+{
+    let mut next = at;
+    let mut left = x;
+    while 0 < left {
+        next = put_two(out, next, false, d, plain, vars[lowest(left)]);
+        left = rest(left);
+    }
+    next
+}
+
+// The literals of a body's positive or negative set, negated.
+fn put_flipped(out: &mut [i32], at: usize, x: u64, vars: &[u32; 64], plain: bool) -> usize
+    requires { ⌜ SmallVariables (now vars) × (at + length (listed x) < 4294967296) ⌝ }
+    ensures { λ r. ⌜ Wrote (now (out .entry)) at (flippedWords (now (vars .entry)) plain x) (now (out .exit)) r ⌝ }
+{
+    let mut next = at;
+    let mut left = x;
+    while 0 < left {
+        next = put_literal(out, next, !plain, vars[lowest(left)]);
+        left = rest(left);
+    }
+    next
+}
+
+// For each literal of the body of two sets the clause of -d and it.
+fn put_body_pairs(
+    out: &mut [i32],
+    at: usize,
+    d: u32,
+    pos: u64,
+    neg: u64,
+    vars: &[u32; 64],
+    lasts: &[u32; 64],
+) -> usize
+    requires { ⌜ SmallVariables (now vars) × Values last (now lasts) × (d < 2147483648)
+        × (at + length (bodyPairsWords (now vars) d pos neg) < 4294967296) ⌝ }
+    ensures { λ r. ⌜ Wrote (now (out .entry)) at (bodyPairsWords (now (vars .entry)) d pos neg) (now (out .exit)) r ⌝ }
+{
+    let middle = put_pairs(out, at, d, pos, vars, true);
+    put_pairs(out, middle, d, neg, lasts, false)
+}
+
+// The clause of the negated literals of the body of two sets.
+pub fn put_back(
+    out: &mut [i32],
+    at: usize,
+    pos: u64,
+    neg: u64,
+    vars: &[u32; 64],
+    lasts: &[u32; 64],
+) -> usize
+    requires { ⌜ SmallVariables (now vars) × Values last (now lasts) × (at + length (backWords (now vars) pos neg) < 4294967296) ⌝ }
+    ensures { λ r. ⌜ Wrote (now (out .entry)) at (backWords (now (vars .entry)) pos neg) (now (out .exit)) r ⌝ }
+{
+    let middle = put_flipped(out, at, pos, vars, true);
+    let last = put_flipped(out, middle, neg, lasts, false);
+    put_plain(out, last, 0)
+}
+
+// The clauses of the rule of two sets, with the variable d, for h.
+pub fn put_rule(
+    out: &mut [i32],
+    at: usize,
+    h: u32,
+    d: u32,
+    pos: u64,
+    neg: u64,
+    vars: &[u32; 64],
+    lasts: &[u32; 64],
+) -> usize
+    requires { ⌜ SmallVariables (now vars) × Values last (now lasts) × (h < 2147483648) × (d < 2147483648)
+        × (at + length (ruleWords (now vars) h d pos neg) < 4294967296) ⌝ }
+    ensures { λ r. ⌜ Wrote (now (out .entry)) at (ruleWords (now (vars .entry)) h d pos neg) (now (out .exit)) r ⌝ }
+{
+    let first = put_two(out, at, true, h, false, d);
+    let second = put_body_pairs(out, first, d, pos, neg, vars, lasts);
+    let third = put_plain(out, second, d);
+    put_back(out, third, pos, neg, vars, lasts)
+}

@@ -1,0 +1,39 @@
+-- What is known of a sheet whose records have passed, and a walk over them.
+use mathlib.Core.Bool.{true}
+use mathlib.Core.List.{List, _∷_}
+use mathlib.Core.Path.{_≡_}
+use Prim.Native.Nat.{ℕ, _-_, _≤_, _<_}
+use lib.ListN.{length}
+use Rattle.sheet.specs.Questions.{ask, _then_}
+use Rattle.sheet.specs.Format.{size, positives, end, atomsByte, recordsByte, opens, measured, limited, kindPasses, listsFit, recordsQuestions}
+use Rattle.sheet.specs.Sheet.{recordAt, recordsFrom}
+use Rattle.sheet.specs.declared.Limits.{Limits}
+
+-- Questions 1 to 6.
+unfoldable pub formQuestions : Limits → List ℕ → ℕ
+formQuestions L s =
+    ask (opens s) 1 then ask (measured s) 2 then ask (limited L s) 3 then recordsQuestions (recordsByte s) (atomsByte s) s 5
+
+-- What a record that passes question 4 is known by.
+pub record Complete (s : List ℕ) (at : ℕ) : Type 0 where
+  pub starts : at < length s
+  pub three : 3 ≤ size s at
+  pub fits : end s at ≤ length s
+  pub split : positives s at ≤ size s at - 3
+
+-- The record at `at` has passed questions 4, 5 and 6.
+pub record Known (s : List ℕ) (n at : ℕ) : Type 0 where
+  pub whole : Complete s at
+  pub kinds : kindPasses n s at ≡ true
+  pub lists : listsFit n s at ≡ true
+
+-- The records from `at` on, `left` of them, have passed.
+pub record Walk (s : List ℕ) (n left at : ℕ) : Type 0 where
+  pub passed : recordsQuestions left n s at ≡ 0
+
+-- One record further: where it ends, what is known of it, and what is left.
+pub record Stepped (s : List ℕ) (n left at r : ℕ) : Type 0 where
+  pub is : r ≡ end s at
+  pub known : Known s n at
+  pub rest : Walk s n (left - 1) r
+  pub list : recordsFrom left s at ≡ recordAt s at ∷ recordsFrom (left - 1) s r

@@ -1,0 +1,45 @@
+-- `unfolded_output::put_body` meets its contract, one law for each way through it.
+use Rattle.copies.specs.inner.Bodies.{bodyAtoms}
+use Rattle.unfolded_output.proofs.Body.{body-wrote}
+use borrow.Author.Needs.{needs}
+use Rattle.unfolded_output.proofs.put_body.Statement.{statement}
+use Rattle.unfolded_output.proofs.put_body.Tie as tie
+
+size-requires : tie.Need-size-requires
+size-requires c κs = search needs
+
+put-word-requires : tie.Need-put-word-requires
+put-word-requires c κs = search needs
+
+size-requires-2 : tie.Need-size-requires-2
+size-requires-2 c κs = search needs
+
+put-word-requires-2 : tie.Need-put-word-requires-2
+put-word-requires-2 c κs = search needs
+
+put-set-requires : tie.Need-put-set-requires
+unfolding bodyAtoms
+put-set-requires c κs = search needs
+
+put-set-requires-2 : tie.Need-put-set-requires-2
+unfolding bodyAtoms
+put-set-requires-2 c κs = search needs
+
+same-length : tie.Need-same-length
+same-length c = search needs
+
+returns : tie.Need-returns
+returns c = search (needs, body-wrote)
+
+pub put-body-spec : {M : Type 1} → statement M
+put-body-spec =
+    tie.close
+    (tie.spec
+    size-requires
+    put-word-requires
+    size-requires-2
+    put-word-requires-2
+    put-set-requires
+    put-set-requires-2
+    same-length
+    returns)

@@ -1,0 +1,97 @@
+-- `unfolded_output::put_copies` meets its contract, one law for each way through it.
+use native.Mathlib.Omega.{arith}
+use Rattle.copies.proofs.Going.{ready-below}
+use borrow.Author.Needs.{needs}
+use Rattle.unfolded_output.proofs.Whole.{CopiesWritten, copies-start, copies-entry, copies-fresh, copies-room, copies-turn, copies-length, copies-end}
+use lib.ListN.{length}
+use Prim.Native.Nat.{_-_}
+use Rattle.unfolded_output.proofs.put_copies.Statement.{statement}
+use Rattle.unfolded_output.proofs.put_copies.Tie as tie
+
+abbrev Inv-loop : tie.InvT-loop
+Inv-loop out₀ at q names sets lasts t rules places latest₀ copied₀ fresh₀ next₀ i₀ out latest copied fresh next i =
+    CopiesWritten t q out₀ at i copied latest fresh out next
+
+abbrev μ-loop : tie.MeasureT-loop
+μ-loop out₀ at q names sets lasts t rules places latest₀ copied₀ fresh₀ next₀ i₀ out latest copied fresh next i =
+    length q - i
+
+last-places-requires : tie.Need-last-places-requires Inv-loop μ-loop
+last-places-requires c κs = (search (needs, ready-below), search needs, search needs)
+
+cast-fresh : tie.Need-cast-fresh Inv-loop μ-loop
+cast-fresh c = search needs
+
+loop-holds : tie.Need-loop-holds Inv-loop μ-loop
+loop-holds c = search (needs, copies-start)
+
+copy-at-requires : tie.Need-copy-at-requires Inv-loop μ-loop
+copy-at-requires c κs = search (needs, copies-entry, copies-fresh)
+
+kept-rules-requires : tie.Need-kept-rules-requires Inv-loop μ-loop
+kept-rules-requires c κs = search needs
+
+overlay-requires : tie.Need-overlay-requires Inv-loop μ-loop
+overlay-requires c κs = c .before .before .before .before .before .before .before .before .before .before .before .before .before .before .before .before .pre .1 .long
+
+put-copy-requires : tie.Need-put-copy-requires Inv-loop μ-loop
+put-copy-requires c κs =
+    let laid = c .before .before .before .before .before in
+    let kept = laid .before .before .before .before in
+    let made = kept .before .before .before .before .before in
+    let test = made .before .before in
+    let start = test .before .before .before .before .before .before in
+    (start .pre .1, kept .kept-rules .ensures .inside, copies-room _ _ _ _ (start .pre .0) _ _ _ _ _ _ _ _ (test .before .loop .inv) (test .loop-test .taken) _ (made .copy-at .ensures) _ (kept .kept-rules .ensures) _ _ (start .pre .1) (laid .overlay .ensures) (start .pre .2))
+
+mul-latest : tie.Need-mul-latest Inv-loop μ-loop
+mul-latest c = search needs
+
+array-write-latest : tie.Need-array-write-latest Inv-loop μ-loop
+array-write-latest c = search needs
+
+with-requires : tie.Need-with-requires Inv-loop μ-loop
+with-requires c κs = search needs
+
+add-i : tie.Need-add-i Inv-loop μ-loop
+add-i c = let test = c .before .before .before .before .before .before .before .before .before .before .before .before .before .before .before .before .before .before .before .before in let start = test .before .before .before .before .before .before in omega (arith, test .loop-test .taken, start .pre .0 .short)
+
+loop-less : tie.Need-loop-less Inv-loop μ-loop
+loop-less c = search needs
+
+loop-again : tie.Need-loop-again Inv-loop μ-loop
+loop-again c =
+    let put = c .before .before .before in
+    let laid = put .before .before .before .before .before .before in
+    let kept = laid .before .before .before .before in
+    let made = kept .before .before .before .before .before in
+    let test = made .before .before in
+    let start = test .before .before .before .before .before .before in
+    copies-turn _ _ _ _ (start .pre .0) _ _ _ _ _ _ _ _ (test .before .loop .inv) (test .loop-test .taken) _ (made .copy-at .ensures) _ (kept .kept-rules .ensures) _ _ (start .pre .1) (laid .overlay .ensures) _ (c .with .ensures) _ _ (put .put-copy .ensures)
+
+same-length : tie.Need-same-length Inv-loop μ-loop
+same-length c = search (needs, copies-length)
+
+returns : tie.Need-returns Inv-loop μ-loop
+returns c = search (needs, copies-end)
+
+pub put-copies-spec : {M : Type 1} → statement M
+put-copies-spec =
+    tie.close
+    (tie.spec
+    Inv-loop
+    μ-loop
+    last-places-requires
+    cast-fresh
+    loop-holds
+    copy-at-requires
+    kept-rules-requires
+    overlay-requires
+    put-copy-requires
+    mul-latest
+    array-write-latest
+    with-requires
+    add-i
+    loop-less
+    loop-again
+    same-length
+    returns)

@@ -1,0 +1,54 @@
+-- `unfolded_output::put_unfolded` meets its contract, one law for each way through it.
+use Rattle.unfolded_output.proofs.Whole.{first-room, behind-room, constraints-room, words-wrote}
+use borrow.Author.Needs.{needs}
+use Rattle.unfolded_output.proofs.put_unfolded.Statement.{statement}
+use Rattle.unfolded_output.proofs.put_unfolded.Tie as tie
+
+last-copies-requires : tie.Need-last-copies-requires
+last-copies-requires c κs = search needs
+
+sub-count : tie.Need-sub-count
+sub-count c = search needs
+
+cast-put-word : tie.Need-cast-put-word
+cast-put-word c = search needs
+
+put-word-requires : tie.Need-put-word-requires
+put-word-requires c κs = search needs
+
+put-copies-requires : tie.Need-put-copies-requires
+put-copies-requires c κs = search (needs, first-room)
+
+cast-put-word-2 : tie.Need-cast-put-word-2
+cast-put-word-2 c = search needs
+
+put-word-requires-2 : tie.Need-put-word-requires-2
+put-word-requires-2 c κs = search (needs, behind-room)
+
+add-put-entries : tie.Need-add-put-entries
+add-put-entries c = search needs
+
+put-entries-requires : tie.Need-put-entries-requires
+put-entries-requires c κs = (search needs, search needs, search (needs, constraints-room))
+
+same-length : tie.Need-same-length
+same-length c = search needs
+
+returns : tie.Need-returns
+returns c = search (needs, words-wrote)
+
+pub put-unfolded-spec : {M : Type 1} → statement M
+put-unfolded-spec =
+    tie.close
+    (tie.spec
+    last-copies-requires
+    sub-count
+    cast-put-word
+    put-word-requires
+    put-copies-requires
+    cast-put-word-2
+    put-word-requires-2
+    add-put-entries
+    put-entries-requires
+    same-length
+    returns)

@@ -1,0 +1,200 @@
+// Writing the unfolded program's words.
+use bits::lowest;
+use bits::rest;
+use bits::size;
+use bits::with;
+use copies::KeptRules;
+use copies::copy_at;
+use copies::entry_at;
+use copies::kept_rules;
+use copies::last_copies;
+use copies::last_places;
+use copies::overlay;
+use copies::totals_of;
+use program::ProgramTable;
+use writer::put_word;
+ghost use mathlib.Core.Path.{_≡_};
+ghost use Prim.Native.Nat.{_+_, _≤_, _<_};
+ghost use lib.ListN.{length};
+ghost use Rattle.unfolding.specs.Unfolded.{last, words};
+ghost use Rattle.bits.specs.inner.Visited.{listed};
+ghost use Rattle.writer.specs.inner.Wrote.{Wrote};
+ghost use Rattle.copies.specs.inner.Tables.{Values};
+ghost use Rattle.copies.specs.inner.Bodies.{bodyAtoms};
+ghost use Rattle.copies.specs.inner.Kept.{Inside};
+ghost use Rattle.copies.specs.inner.Ready.{Ready, unfoldedIn};
+ghost use Rattle.unfolded_output.specs.inner.Words.{setBodyWords, listedWords, entriesWords, keptWords, copiesWords, SetWrote};
+
+// The variables of a set's atoms.
+fn put_set(out: &mut [u32], at: usize, x: u64, vars: &[u32; 64]) -> usize
+    requires { ⌜ at + length (listed x) < 4294967296 ⌝ }
+    ensures { λ r. ⌜ SetWrote (now (out .entry)) at (now (vars .entry)) x (now (out .exit)) r ⌝ }
+{
+    let mut next = at;
+    let mut left = x;
+    while 0 < left {
+        next = put_word(out, next, vars[lowest(left)]);
+        left = rest(left);
+    }
+    next
+}
+
+// The body of two sets: the numbers of positive and of negative atoms, and their variables.
+fn put_body(
+    out: &mut [u32],
+    at: usize,
+    pos: u64,
+    neg: u64,
+    vars: &[u32; 64],
+    lasts: &[u32; 64],
+) -> usize
+    requires { ⌜ Values last (now lasts) × (at + 2 + bodyAtoms pos neg < 4294967296) ⌝ }
+    ensures { λ r. ⌜ Wrote (now (out .entry)) at (setBodyWords (now (vars .entry)) pos neg) (now (out .exit)) r ⌝ }
+{
+    let second = put_word(out, at, size(pos));
+    let first = put_word(out, second, size(neg));
+    let middle = put_set(out, first, pos, vars);
+    put_set(out, middle, neg, lasts)
+}
+
+// The bodies of the first k entries that are listed.
+fn put_listed<'a>(
+    out: &mut [u32],
+    at: usize,
+    entries: &[u8; 128],
+    k: usize,
+    pos: &'a [u64; 128],
+    neg: &'a [u64; 128],
+    vars: &[u32; 64],
+    lasts: &[u32; 64],
+) -> usize
+    requires { ⌜ Values last (now lasts) × Inside (now entries) k
+        × (at + length (listedWords (now pos) (now neg) (now vars) (now entries) k) < 4294967296) ⌝ }
+    ensures { λ r. ⌜ Wrote (now (out .entry)) at
+        (listedWords (now (pos .entry)) (now (neg .entry)) (now (vars .entry)) (now (entries .entry)) k) (now (out .exit)) r ⌝ }
+{
+    let mut next = at;
+    let mut j = 0;
+    while j < k {
+        let i = entry_at(entries, k, j);
+        next = put_body(out, next, pos[i], neg[i], vars, lasts);
+        j += 1;
+    }
+    next
+}
+
+// A copy: its variable, the number of rules kept, and those.
+fn put_copy<'a>(
+    out: &mut [u32],
+    at: usize,
+    var: u32,
+    kept: KeptRules,
+    pos: &'a [u64; 128],
+    neg: &'a [u64; 128],
+    vars: &[u32; 64],
+    lasts: &[u32; 64],
+) -> usize
+    requires { ⌜ Values last (now lasts) × Inside (kept .entries) (kept .rules)
+        × (at + length (keptWords (now pos) (now neg) (now vars) var kept) < 4294967296) ⌝ }
+    ensures { λ r. ⌜ Wrote (now (out .entry)) at
+        (keptWords (now (pos .entry)) (now (neg .entry)) (now (vars .entry)) var kept) (now (out .exit)) r ⌝ }
+{
+    let k = kept.rules;
+    let second = put_word(out, at, var);
+    let next = put_word(out, second, k as u32);
+    put_listed(out, next, &kept.entries, k, pos, neg, vars, lasts)
+}
+
+// All copies, in sequence order.
+fn put_copies(
+    out: &mut [u32],
+    at: usize,
+    t: ProgramTable,
+    q: &[u8],
+    names: &[u8; 64],
+    sets: &[u64; 64],
+    lasts: &[u32; 64],
+) -> usize
+    requires { ⌜ Ready t (now names) (now sets) (now q) × Values last (now lasts)
+        × (at + length (copiesWords (unfoldedIn t (now q))) < 4294967296) ⌝ }
+    ensures { λ r. ⌜ Wrote (now (out .entry)) at (copiesWords (unfoldedIn t (now (q .entry)))) (now (out .exit)) r ⌝ }
+{
+    let rules = t.rules;
+    let table = last_places(q);
+    let places = table.places;
+    let mut latest = [0u32; 64];
+    let mut copied: u64 = 0;
+    let mut fresh = t.atoms as u32;
+    let mut next = at;
+    let mut i = 3;
+    while i < q.len() {
+        let copy = copy_at(q, i, names, sets, &places, fresh);
+        let a = copy.atom;
+        let kept = kept_rules(&t.heads, &t.pos, &t.neg, rules, a, copy.component, copied);
+        let mut vars = *lasts;
+        overlay(&mut vars, &latest, copy.component);
+        next = put_copy(out, next, copy.var, kept, &t.pos, &t.neg, &vars, lasts);
+        latest[a] = copy.var;
+        copied = with(copied, a);
+        fresh = copy.fresh;
+        i += 1;
+    }
+    next
+}
+
+// The bodies of the entries from .. to - 1, by last copies.
+fn put_entries<'a>(
+    out: &mut [u32],
+    at: usize,
+    from: usize,
+    to: usize,
+    pos: &'a [u64; 128],
+    neg: &'a [u64; 128],
+    lasts: &[u32; 64],
+) -> usize
+    requires { ⌜ Values last (now lasts) × (to ≤ 128)
+        × (at + length (entriesWords (now pos) (now neg) (now lasts) from to) < 4294967296) ⌝ }
+    ensures { λ r. ⌜ Wrote (now (out .entry)) at
+        (entriesWords (now (pos .entry)) (now (neg .entry)) (now (lasts .entry)) from to) (now (out .exit)) r ⌝ }
+{
+    let mut next = at;
+    let mut j = from;
+    while j < to {
+        next = put_body(out, next, pos[j], neg[j], lasts, lasts);
+        j += 1;
+    }
+    next
+}
+
+// The unfolded program: the number of copies, the copies, the number of constraints and those.
+pub fn put_unfolded(
+    out: &mut [u32],
+    t: ProgramTable,
+    q: &[u8],
+    names: &[u8; 64],
+    sets: &[u64; 64],
+) -> usize
+    requires { ⌜ Ready t (now names) (now sets) (now q) ⌝ }
+    ensures { λ r. ⌜ Wrote (now (out .entry)) 0 (words (unfoldedIn t (now (q .entry)))) (now (out .exit)) r ⌝ }
+{
+    let from = t.rules;
+    let constraints = t.constraints;
+    let table = last_copies();
+    let lasts = table.vars;
+    let count = q.len() - 3;
+    let first = put_word(out, 0, count as u32);
+    let behind = put_copies(out, first, t, q, names, sets, &lasts);
+    let next = put_word(out, behind, constraints as u32);
+    put_entries(out, next, from, from + constraints, &t.pos, &t.neg, &lasts)
+}
+
+// How many words that is: two for each copy, rule and constraint, one for each of their atoms, and the two numbers.
+pub fn unfolded_length(t: ProgramTable, q: &[u8], names: &[u8; 64], sets: &[u64; 64]) -> usize
+    requires { ⌜ Ready t (now names) (now sets) (now q) ⌝ }
+    ensures { λ r. ⌜ r ≡ length (words (unfoldedIn t (now (q .entry)))) ⌝ }
+{
+    let count = q.len() - 3;
+    let totals = totals_of(t, q, names, sets);
+    let headers = count + totals.rules + totals.constraints + 1;
+    2 * headers + totals.atoms + totals.literals
+}

@@ -1,0 +1,162 @@
+/* How much stack each operation takes, on sheets and sequences that lead through all of its code: the stack of a call is
+ * filled with a pattern beforehand. Prints bytes, and for the operations that write words the length of the longest output. */
+#define _GNU_SOURCE
+#include "rulesheet.h"
+#include <stdio.h>
+#include <stdlib.h>
+#include <string.h>
+#include <ucontext.h>
+
+enum { STACK = 1 << 20, PATTERN = 0xa5, ROOM = RULESHEET_CLAUSES_ROOM };
+
+static uint8_t stack[STACK];
+static ucontext_t here, there;
+static void (*running)(void);
+
+static uint8_t sheet[65536], sequence[643];
+static size_t sheet_len, sequence_len;
+static uint32_t *out;
+static uint64_t numbers[3];
+static uint32_t status;
+
+static void read_call(void) { status = rulesheet_read(sheet, sheet_len, &numbers[0], &numbers[1]); }
+static void body_call(void) { status = rulesheet_body(sheet, sheet_len, 0, &numbers[0], &numbers[1], &numbers[2]); }
+static void components_call(void) { status = rulesheet_components(sheet, sheet_len, (uint8_t *)out, ROOM, numbers); }
+static void default_call(void) { status = rulesheet_default(sheet, sheet_len, (uint8_t *)out, ROOM, numbers); }
+static void test_call(void) { status = rulesheet_test(sheet, sheet_len, sequence, sequence_len); }
+static void unfolded_call(void) {
+    status = rulesheet_unfolded(sheet, sheet_len, sequence, sequence_len, out, ROOM, numbers);
+}
+static void clauses_call(void) {
+    status = rulesheet_clauses(sheet, sheet_len, sequence, sequence_len, (int32_t *)out, ROOM, &numbers[0], &numbers[1],
+                               &numbers[2]);
+}
+static void count_call(void) { status = rulesheet_count(sheet, sheet_len, &numbers[0], &numbers[1]); }
+static void nothing(void) {}
+
+static void enter(void) { running(); }
+
+static size_t used(void (*call)(void)) {
+    size_t low = 0;
+    running = call;
+    memset(stack, PATTERN, STACK);
+    getcontext(&there);
+    there.uc_stack.ss_sp = stack;
+    there.uc_stack.ss_size = STACK;
+    there.uc_link = &here;
+    makecontext(&there, enter, 0);
+    swapcontext(&here, &there);
+    while (low < STACK && stack[low] == PATTERN) {
+        low++;
+    }
+    return STACK - low;
+}
+
+/* A rule whose lists are the atoms of two ranges. */
+static void add_rule(int head, int first, int end, int neg_first, int neg_end) {
+    uint8_t *record = sheet + sheet_len;
+    size_t size = 0;
+    record[1] = 0;
+    record[2] = head;
+    record[3] = end - first;
+    for (int atom = first; atom < end; atom++) {
+        record[4 + size++] = atom;
+    }
+    for (int atom = neg_first; atom < neg_end; atom++) {
+        record[4 + size++] = atom;
+    }
+    record[0] = 3 + size;
+    sheet_len += 4 + size;
+    sheet[4]++;
+}
+
+static void begin(int atoms) {
+    memset(sheet, 0, sizeof sheet);
+    sheet[0] = 1;
+    sheet[3] = atoms;
+    sheet_len = 5;
+}
+
+static void end(void) {
+    sheet[1] = sheet_len / 256;
+    sheet[2] = sheet_len % 256;
+}
+
+static void set_sequence(int length) {
+    sequence[0] = 1;
+    sequence[1] = length / 256;
+    sequence[2] = length % 256;
+    sequence_len = 3 + length;
+}
+
+/* 128 rules for atom 0 with every atom in both lists; a sequence of 577 entries 0 and every other atom: the longest
+ * outputs of unfolded and clauses. */
+static void longest(void) {
+    begin(64);
+    for (int rule = 0; rule < 128; rule++) {
+        add_rule(0, 0, 64, 0, 64);
+    }
+    end();
+    memset(sequence, 0, sizeof sequence);
+    set_sequence(640);
+    for (int atom = 1; atom < 64; atom++) {
+        sequence[3 + 576 + atom] = atom;
+    }
+}
+
+/* Six complete components of ten atoms, and rules that negate 16 atoms; the default sequence. */
+static void complete(void) {
+    begin(60);
+    for (int atom = 0; atom < 60; atom++) {
+        add_rule(atom, atom / 10 * 10, atom / 10 * 10 + 10, 0, 0);
+    }
+    for (int atom = 0; atom < 60; atom++) {
+        add_rule(atom, 0, 0, 0, 16);
+    }
+    end();
+    rulesheet_default(sheet, sheet_len, sequence, sizeof sequence, numbers);
+    sequence_len = numbers[0];
+}
+
+/* 16 atoms, each derived where one of the eight behind it is not: many atoms are decided one by one. */
+static void decided(void) {
+    begin(64);
+    for (int rule = 0; rule < 128; rule++) {
+        int other = (rule % 16 + rule / 16 + 1) % 16;
+        add_rule(rule % 16, 0, 0, other, other + 1);
+    }
+    end();
+    set_sequence(64);
+    for (int atom = 0; atom < 64; atom++) {
+        sequence[3 + atom] = atom;
+    }
+}
+
+int main(void) {
+    static const struct {
+        const char *name;
+        void (*call)(void);
+    } calls[] = {{"read", read_call},   {"body", body_call},         {"components", components_call}, {"default", default_call},
+                 {"test", test_call},   {"unfolded", unfolded_call}, {"clauses", clauses_call},       {"count", count_call}};
+    static void (*const inputs[])(void) = {longest, complete, decided};
+    out = malloc(sizeof *out * ROOM);
+    if (out == NULL) {
+        return 1;
+    }
+    size_t frame = used(nothing);
+    for (size_t call = 0; call < sizeof calls / sizeof *calls; call++) {
+        size_t most = 0;
+        uint64_t written = 0;
+        for (size_t input = 0; input < sizeof inputs / sizeof *inputs; input++) {
+            inputs[input]();
+            size_t size = used(calls[call].call) - frame;
+            most = size > most ? size : most;
+            written = status == 0 && numbers[0] > written ? numbers[0] : written;
+        }
+        printf("%-10s %7zu bytes of stack\n", calls[call].name, most);
+        if (calls[call].call == unfolded_call || calls[call].call == clauses_call) {
+            printf("%-10s %7llu words\n", calls[call].name, (unsigned long long)written);
+        }
+    }
+    return 0;
+}
