@@ -4,11 +4,11 @@ use mathlib.Core.List.{List, [], _∷_}
 use mathlib.Core.Path.{_≡_, refl, sym, _∙_, ap, subst}
 use Prim.Native.Nat.{ℕ, zero, suc, _+_, _-_, _≤_, _<_}
 use native.Mathlib.Omega.{arith}
-use borrow.Author.Tests.{eqb-true, eqb-false, eq-eqb, ne-eqb, ltb-true, leb-true, le-leb}
+use borrow.Author.Tests.{eqb-true, eqb-false, ne-eqb, ltb-true, leb-true, le-leb}
 use lib.Dec.{eqb, ltb, leb}
 use Rattle.lists.specs.Lists.{any, filter, range, member}
 use Rattle.lists.proofs.Bools.{by-bool, true-false, and-intro, and-left, and-right, is-false}
-use Rattle.lists.proofs.Members.{filter-none, filter-cong, filter-range, range-out, member-out, member-in}
+use Rattle.lists.proofs.Members.{filter-none, filter-cong, filter-range, range-out}
 use Rattle.bits.specs.inner.Sets.{has, Gathered}
 use Rattle.bits.specs.inner.Visited.{listed}
 

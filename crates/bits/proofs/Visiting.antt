@@ -1,7 +1,7 @@
 -- The smallest member of a set, and the set without it.
 use mathlib.Core.Bool.{Bool, true, false, not, _&&_, and-false, and-true, and-self}
-use mathlib.Core.List.{List, [], _∷_, _++_, List·Memᴰ}
-use mathlib.Core.Path.{_≡_, refl, sym, _∙_, ap, subst}
+use mathlib.Core.List.{[], _∷_, _++_}
+use mathlib.Core.Path.{_≡_, refl, sym, _∙_, ap}
 use Prim.Native.Nat.{ℕ, zero, suc, _+_, _-_, _/_, _%_, _*_, _^_, _≤_, _<_}
 use native.Mathlib.Nat.{zero-add, one-mul, div-lt-iff-lt-mul}
 use native.Mathlib.Omega.{arith}
@@ -15,7 +15,7 @@ use lib.ListN.{length}
 use Rattle.lists.specs.Lists.{filter, member, range}
 use Rattle.lists.proofs.Bools.{by-bool, bool-ext, true-false}
 use Rattle.lists.proofs.Members.{filter-append, filter-none, filter-cong, range-left, range-append, range-in, range-out, filter-in, filter-out, member-in, member-out}
-use Rattle.bits.specs.inner.Sets.{has, Without}
+use Rattle.bits.specs.inner.Sets.{has}
 use Rattle.bits.proofs.Digits.{has-half, has-lowest, half-small, and-has, zero-has}
 use Rattle.bits.specs.inner.Visited.{listed, Lowest, Rest}
 

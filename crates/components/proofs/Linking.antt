@@ -1,6 +1,6 @@
 -- Laws of the loop that fills the table with the edges of the rules.
-use mathlib.Core.Bool.{Bool, true, false, _&&_, _||_, and-false, or-false, or-comm, or-assoc}
-use mathlib.Core.List.{List, [], _∷_, map}
+use mathlib.Core.Bool.{Bool, _&&_, _||_, or-false, or-comm, or-assoc}
+use mathlib.Core.List.{List, map}
 use mathlib.Core.Path.{_≡_, refl, sym, _∙_, ap}
 use Prim.Native.Nat.{ℕ, _+_, _-_, _*_, _^_, _≤_, _<_}
 use native.Mathlib.Omega.{arith}
@@ -8,7 +8,7 @@ use borrow.Author.Tests.{eqb-true, eqb-false, eq-eqb}
 use lib.Dec.{eqb}
 use lib.ListN.{length, getD, set, length-set, replicate, length-replicate, getD-replicate}
 use lib.Seq.{getD-set-same, getD-set-other}
-use Rattle.lists.specs.Lists.{any, member, range}
+use Rattle.lists.specs.Lists.{any, member}
 use Rattle.lists.proofs.Bools.{by-bool}
 use Rattle.lists.proofs.Members.{range-left, range-over}
 use Rattle.asp.specs.Program.{Rule}

@@ -1,5 +1,5 @@
 -- Laws of asking the questions about a sheet and a sequence.
-use mathlib.Core.Bool.{Bool, true, false, _&&_}
+use mathlib.Core.Bool.{Bool, true, false}
 use mathlib.Core.List.{List}
 use mathlib.Core.Path.{_≡_, refl, sym, _∙_, ap, ap₂, subst}
 use Prim.Native.Nat.{ℕ, _≤_, _<_}
@@ -10,8 +10,7 @@ use lib.ListN.{length, getD}
 use Rattle.lists.specs.Lists.{below, range}
 use Rattle.lists.proofs.Bools.{by-bool}
 use Rattle.lists.proofs.Members.{all-at, range-in}
-use Rattle.asp.specs.Program.{Program, wellFormed}
-use Rattle.unfolding.specs.Chain.{passes}
+use Rattle.asp.specs.Program.{wellFormed}
 use Rattle.unfolding.specs.Graph.{component}
 use Rattle.unfolding.specs.Default.{members}
 use Rattle.bits.specs.inner.Visited.{listed}
@@ -19,7 +18,7 @@ use Rattle.program.specs.declared.ProgramTable.{ProgramTable}
 use Rattle.program.specs.inner.Held.{programIn, Readable}
 use Rattle.program.proofs.Entries.{program-atoms}
 use Rattle.sheet.specs.Questions.{ask, _then_}
-use Rattle.sheet.specs.Format.{atomsByte, recordsByte}
+use Rattle.sheet.specs.Format.{atomsByte}
 use Rattle.sheet.specs.inner.Walk.{formQuestions}
 use Rattle.sheet.specs.Sheet.{records, programOf, program}
 use Rattle.sheet.specs.Sequence.{entries, sequenceFits}
@@ -28,7 +27,7 @@ use Rattle.sheet.proofs.Records.{ask-no, ask-yes, then-refused, then-zero}
 use Rattle.sheet.proofs.Sequences.{fits-out}
 use Rattle.sheet.proofs.Walk.{Formed, formed, program-formed, asked-yes}
 use Rattle.reader.specs.declared.RecordTable.{RecordTable}
-use Rattle.reader.specs.inner.Tabled.{recordsIn, SheetRead}
+use Rattle.reader.specs.inner.Tabled.{SheetRead}
 use Rattle.translation.specs.inner.Translated.{Translated}
 use Rattle.components.specs.declared.Components.{Components}
 use Rattle.components.specs.Limit.{componentsFit}
@@ -36,7 +35,7 @@ use Rattle.components.specs.inner.Reachability.{NamesOf, SetsOf, named, SetsFit
 use Rattle.components.proofs.Naming.{sets-named}
 use Rattle.components.proofs.Graphs.{fits-same, named-members}
 use Rattle.chains.specs.inner.Subsets.{Graph, Small, PassesBy}
-use Rattle.core.specs.Questions.{question7, question8, question9, readQuestions, testQuestions}
+use Rattle.core.specs.Questions.{question9, readQuestions, testQuestions}
 use Rattle.core.specs.inner.Asked.{Supported, SheetAccepted, SheetAsked, SequenceAsked, BothAsked}
 use Rattle.core.specs.declared.Asked.{Asked}
 use Rattle.core.proofs.Chains.{read-asked, test-asked}

@@ -1,22 +1,22 @@
 -- What is known of the entries of a table that can be worked with.
-use mathlib.Core.Bool.{true, _&&_}
-use mathlib.Core.List.{List, List·Memᴰ, Memᴰ·map}
-use mathlib.Core.Path.{_≡_, subst}
-use Prim.Native.Nat.{ℕ, _+_, _≤_, _<_}
+use mathlib.Core.Bool.{true}
+use mathlib.Core.List.{Memᴰ·map}
+use mathlib.Core.Path.{_≡_, refl}
+use Prim.Native.Nat.{ℕ, _<_}
 use native.Mathlib.Omega.{arith}
 use borrow.Author.Tests.{ltb-true}
 use lib.Dec.{ltb}
 use lib.ListN.{getD}
-use Rattle.lists.specs.Lists.{all, range}
-use Rattle.lists.proofs.Bools.{and-left, and-right}
+use Rattle.lists.specs.Lists.{all}
+use Rattle.lists.proofs.Bools.{and-left}
 use Rattle.lists.proofs.Members.{all-at, range-in}
-use Rattle.asp.specs.Program.{Rule, bodyBelow, ruleBelow, wellFormed}
+use Rattle.asp.specs.Program.{bodyBelow, ruleBelow, wellFormed}
 use Rattle.program.specs.declared.ProgramTable.{ProgramTable}
-use Rattle.program.specs.inner.Held.{bodyOf, ruleOf, rulesAt, bodiesAt, programIn, Readable}
+use Rattle.program.specs.inner.Held.{bodyOf, ruleOf, rulesAt, programIn, Readable}
 
 pub program-atoms : (t : ProgramTable) → programIn t .atoms ≡ t .atoms
 unfolding programIn
-program-atoms t = mathlib.Core.Path.refl
+program-atoms t = refl
 
 module _ (t : ProgramTable) (R : Readable t) (j : ℕ) (l : j < t .rules) where
   -- The rule at an entry names atoms of the program.

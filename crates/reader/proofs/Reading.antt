@@ -1,7 +1,7 @@
 -- Laws of reading a list of atoms and a record.
 use mathlib.Core.Bool.{Bool, true, false, _||_, or-false, or-assoc, or-comm, true≢false}
-use mathlib.Core.List.{List, _∷_}
-use mathlib.Core.Path.{_≡_, refl, sym, _∙_, ap, ap₂}
+use mathlib.Core.List.{List}
+use mathlib.Core.Path.{_≡_, refl, sym, _∙_, ap}
 use Prim.Native.Nat.{ℕ, suc, _+_, _≤_, _<_}
 use native.Mathlib.Numerals.{add-one}
 use native.Mathlib.Omega.{arith}
@@ -9,19 +9,19 @@ use lib.Dec.{eqb}
 use lib.ListN.{length, getD, drop, drop-of-length-le}
 use lib.Seq.{drop-cons}
 use Rattle.lists.specs.Lists.{any, member}
-use Rattle.bits.specs.inner.Sets.{has, With, ByteAt, Gathered}
+use Rattle.bits.specs.inner.Sets.{has, With, ByteAt}
 use Rattle.bits.proofs.Digits.{zero-has}
 use Rattle.bits.specs.inner.Visited.{listed}
 use Rattle.bits.proofs.Rising.{listed-gathered}
-use Rattle.sheet.specs.Questions.{ask, _then_}
-use Rattle.sheet.specs.Format.{part, posOf, negOf, complete, kindPasses, listFits, listsFit, recordQuestions}
+use Rattle.sheet.specs.Questions.{ask}
+use Rattle.sheet.specs.Format.{part, complete, kindPasses, listFits, listsFit, recordQuestions}
 use Rattle.sheet.specs.Sheet.{recordAt}
 use Rattle.sheet.proofs.Records.{ask-yes, record-incomplete, record-kind, lists-pos, lists-neg}
 use Rattle.sheet.proofs.Lists.{climb-is, Climbing, climbing-start, climbing-below, climbing-above, climbing-turn, climbing-end}
 use Rattle.program.specs.inner.Held.{bodyOf}
 use Rattle.reader.specs.declared.Gather.{Gather}
 use Rattle.reader.specs.declared.Entry.{Entry}
-use Rattle.reader.specs.inner.Tabled.{ListRead, recordOf, Taken, ListsRead, EntryRead}
+use Rattle.reader.specs.inner.Tabled.{ListRead, recordOf, ListsRead, EntryRead}
 
 -- The loop over a list: the list rises so far, and what is left of it and what is in the set are its members.
 pub record Reading (n : ℕ) (l : List ℕ) (i low x : ℕ) : Type 0 where

@@ -7,12 +7,12 @@ use lib.ListN.{length, getD, set, length-set, replicate, length-replicate}
 use lib.Seq.{getD-set-same, getD-set-other}
 use Rattle.lists.specs.Lists.{range}
 use Rattle.lists.proofs.Tables.{range-grown}
-use Rattle.sheet.specs.Format.{end, recordQuestions, recordsQuestions}
-use Rattle.sheet.specs.Sheet.{Record, recordAt, recordsFrom}
+use Rattle.sheet.specs.Format.{end}
+use Rattle.sheet.specs.Sheet.{recordAt, recordsFrom}
 use Rattle.sheet.proofs.Records.{Checking, checking-start, checking-turn, checking-refused, checking-end, checking-left}
 use Rattle.reader.specs.declared.Entry.{Entry}
 use Rattle.reader.specs.declared.RecordTable.{RecordTable}
-use Rattle.reader.specs.inner.Tabled.{recordOf, recordsAt, recordsIn, Taken, EntryRead, RecordsRead}
+use Rattle.reader.specs.inner.Tabled.{recordOf, recordsAt, recordsIn, EntryRead, RecordsRead}
 
 -- One record more.
 module _ (ks hs ps ns : List ℕ) (j k h p n : ℕ) (lk : j < length ks) (lh : j < length hs) (lp : j < length ps) (ln : j < length ns) where

@@ -25,7 +25,7 @@ module _ (x pos neg : ℕ) where
   unfolding holds
   body-lacks b S f = record { is = λ d M. sym (rw (sym (subset-all pos x (d .pos) b (M .positives) S) ∙ f) refl) }
 
--- None of the constraints from k on, before j, is broken.
+-- None of the constraints from k on, before j, is violated.
 pub record Obeying (pos neg : List ℕ) (x k j : ℕ) : Type 0 where
   pub far : k ≤ j
   pub so-far : (i : ℕ) → k ≤ i → i < j → (d : Body) → BodyAt pos neg d i → holds (has x) d ≡ false
@@ -42,8 +42,8 @@ module _ (pos neg : List ℕ) (x : ℕ) where
             (λ q. let ne = eqb-false i j q in O .so-far i l (omega arith) d M);
       }
 
-  pub obeying-broken : (s : Sizes) (j : ℕ) (b : Bool) → Obeying pos neg x (s .rules) j → j < s .rules + s .constraints → BodyHolds x (getD pos j 0) (getD neg j 0) b → b ≡ true → Lawful pos neg s x false
-  obeying-broken s j b O l B t =
+  pub obeying-violated : (s : Sizes) (j : ℕ) (b : Bool) → Obeying pos neg x (s .rules) j → j < s .rules + s .constraints → BodyHolds x (getD pos j 0) (getD neg j 0) b → b ≡ true → Lawful pos neg s x false
+  obeying-violated s j b O l B t =
       record {
         is = λ cs H. let m = H .sound j (O .far) l in
             sym (is-false (λ e. true-false (sym (B .is (m .0) (m .2)) ∙ t) (not-elim (all-at (λ b. not (holds (has x) b)) cs e (m .0) (m .1)))));

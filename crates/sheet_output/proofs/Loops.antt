@@ -1,6 +1,6 @@
 -- What is left of each output at a turn of its loop.
 use mathlib.Core.List.{List, [], _∷_, _++_, map, flatMap}
-use mathlib.Core.Path.{_≡_, refl, sym, _∙_, ap, subst}
+use mathlib.Core.Path.{_≡_, refl, sym, _∙_, ap}
 use Prim.Native.Nat.{ℕ, zero, suc, _+_, _-_, _*_, _%_, _≤_, _<_}
 use native.Mathlib.Nat.{sub-zero, mod-eq-of-lt, mul-le-mul-left, mul-le-mul-right}
 use native.Mathlib.Numerals.{sub-one}

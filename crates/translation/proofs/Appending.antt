@@ -1,11 +1,11 @@
 -- Laws of putting the records of a kind behind entries.
-use mathlib.Core.Bool.{Bool, true, false, cond, not, _&&_}
+use mathlib.Core.Bool.{Bool, true, false, cond}
 use mathlib.Core.List.{List, [], _∷_, _++_, map, map-append, map-map, append-nil, append-assoc}
-use mathlib.Core.Path.{_≡_, refl, sym, _∙_, ap, ap₂, subst}
-use Prim.Native.Nat.{ℕ, zero, suc, _+_, _-_, _*_, _^_, _≤_, _<_}
+use mathlib.Core.Path.{_≡_, refl, sym, _∙_, ap, ap₂}
+use Prim.Native.Nat.{ℕ, _+_, _-_, _*_, _^_, _≤_, _<_}
 use native.Mathlib.Nat.{zero-add}
 use native.Mathlib.Omega.{arith}
-use borrow.Author.Tests.{eqb-true, eq-eqb, ne-eqb}
+use borrow.Author.Tests.{eqb-true, ne-eqb}
 use lib.Dec.{eqb}
 use lib.ListN.{length, length-append, length-map, length-set, getD, set, take, drop, replicate, length-replicate}
 use lib.Seq.{getD-set-same, getD-set-other, take-at, drop-at}
@@ -14,10 +14,9 @@ use Rattle.lists.proofs.Bools.{by-bool}
 use Rattle.lists.proofs.Members.{range-left, range-over, range-append}
 use Rattle.lists.proofs.Nodup.{length-range}
 use Rattle.lists.proofs.Tables.{range-grown}
-use Rattle.asp.specs.Program.{Body, Rule, Program}
+use Rattle.asp.specs.Program.{Rule}
 use Rattle.sheet.specs.Sheet.{Record, rulesOf, constraintsOf, programOf}
-use Rattle.program.specs.declared.ProgramTable.{ProgramTable}
-use Rattle.program.specs.inner.Held.{bodyOf, ruleOf, rulesAt, bodiesAt, programIn}
+use Rattle.program.specs.inner.Held.{ruleOf, rulesAt, bodiesAt, programIn}
 use Rattle.reader.specs.declared.RecordTable.{RecordTable}
 use Rattle.reader.specs.inner.Tabled.{recordOf, recordsAt, recordsIn}
 use Rattle.translation.specs.inner.Translated.{Entries, entries, Long, ofKind, entriesIn, Room, StoredIf, Appended, Translated}

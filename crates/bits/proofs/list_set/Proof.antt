@@ -1,6 +1,5 @@
 use borrow.Author.Needs.{needs}
 use Rattle.bits.proofs.Listing.{Walking, walking-start, walking-room, walking-turn, walking-end}
-use native.Mathlib.Omega.{arith}
 use Rattle.bits.proofs.list_set.Statement.{statement}
 use Rattle.bits.proofs.list_set.Tie as tie
 use Rattle.bits.proofs.list_set.Reads as reads

@@ -1,7 +1,7 @@
 -- `search::lawful` meets its contract, one law for each way through it.
 use Prim.Native.Nat.{_-_}
 use borrow.Author.Needs.{needs}
-use Rattle.search.proofs.Constraints.{Obeying, obeying-start, obeying-turn, obeying-broken, obeying-end}
+use Rattle.search.proofs.Constraints.{Obeying, obeying-start, obeying-turn, obeying-violated, obeying-end}
 use Rattle.search.proofs.lawful.Statement.{statement}
 use Rattle.search.proofs.lawful.Tie as tie
 
@@ -33,7 +33,7 @@ body-holds-requires : tie.Need-body-holds-requires Inv-loop μ-loop
 body-holds-requires c κs = search needs
 
 returns : tie.Need-returns Inv-loop μ-loop
-returns c = search (needs, obeying-broken)
+returns c = search (needs, obeying-violated)
 
 add-j : tie.Need-add-j Inv-loop μ-loop
 add-j c = search needs

@@ -2,7 +2,6 @@ use borrow.Author.Needs.{needs}
 use Rattle.sheet_output.proofs.Loops.{set-next, set-end}
 use Rattle.writer.proofs.Writing.{Left, left-start, left-turn, left-end, left-length}
 use Rattle.bits.specs.inner.Visited.{listed}
-use mathlib.Core.Path.{refl}
 use Rattle.sheet_output.proofs.put_set.Statement.{statement}
 use Rattle.sheet_output.proofs.put_set.Tie as tie
 use Rattle.sheet_output.proofs.put_set.Reads as reads

@@ -1,4 +1,3 @@
-use native.Mathlib.Omega.{arith}
 use Rattle.translation.proofs.Appending.{stored-yes, stored-no, long-index, long-scale, long-next}
 use borrow.Author.Needs.{needs}
 use Rattle.translation.proofs.store_if.Statement.{statement}
