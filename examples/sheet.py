@@ -1,40 +1,87 @@
 #!/usr/bin/env python3
 """examples/sheet.py [--sheet] FILE: writes the bytes of the sheet in a text file, and of its sequence unless --sheet is given.
 
-A line is `HEAD if BODY`, `HEAD` alone, `never if BODY` for a constraint, or `sequence` with atoms. BODY is divided by commas; an atom may have
-`not` in front. Atoms are names, numbered as they appear. Text behind # is a comment.
+A line is `HEAD if BODY`, `HEAD` alone, `never if BODY` for a constraint, or `sequence` with atoms, once. BODY is atoms divided by
+commas, each with `not` in front or without. Atoms are names of letters a to z, digits and _, numbered as the rules name them; `if`,
+`not`, `never` and `sequence` are no names. Text behind # is a comment. Anything else is refused: the file, the line and what was
+expected go to standard error, nothing goes to standard output, and the exit status is 2.
 """
 
+import re
 import sys
+
+RESERVED = ("if", "not", "never", "sequence")
 
 
 def main():
-    sheet_alone = sys.argv[1:2] == ["--sheet"]
-    lines = [line.split("#")[0].strip() for line in open(sys.argv[-1])]
-    atoms, records, entries = {}, [], []
-    for line in filter(None, lines):
-        if line.startswith("sequence "):
-            entries = [number(atoms, name) for name in line.split()[1:]]
-        else:
-            records.append(record(atoms, line))
-    body = b"".join(records)
-    sheet = bytes([1]) + two(5 + len(body)) + bytes([len(atoms), len(records)]) + body
-    sequence = bytes([1]) + two(len(entries)) + bytes(entries)
+    arguments = sys.argv[1:]
+    sheet_alone = arguments[:1] == ["--sheet"]
+    if len(arguments) != 1 + sheet_alone or arguments[-1].startswith("-"):
+        refuse("usage: examples/sheet.py [--sheet] FILE")
+    path = arguments[-1]
+    try:
+        with open(path, encoding="ascii", errors="backslashreplace") as file:
+            lines = [line.split("#")[0].split() for line in file]
+    except OSError as error:
+        refuse(f"{path}: {error.strerror}")
+    sheet, sequence = encoded(path, lines, sheet_alone)
     sys.stdout.buffer.write(sheet if sheet_alone else sheet + sequence)
 
 
-def record(atoms, line):
-    head, _, body = line.partition(" if ")
-    kind, head = (1, 0) if head == "never" else (0, number(atoms, head.strip()))
-    literals = [literal.split() for literal in body.split(",") if literal.strip()]
-    positives = sorted({number(atoms, words[0]) for words in literals if len(words) == 1})
-    negatives = sorted({number(atoms, words[1]) for words in literals if len(words) == 2})
-    parts = bytes([kind, head, len(positives), *positives, *negatives])
+def encoded(path, lines, sheet_alone):
+    """The bytes of the sheet and of the sequence."""
+    atoms, records, entries, place, named_at = {}, [], None, 0, 0
+    try:
+        for place, words in enumerate(lines, 1):
+            if words[:1] == ["sequence"]:
+                expect("one line with `sequence`", entries is None, "a second")
+                entries, named_at = words[1:], place
+            elif words:
+                records.append(record(atoms, words))
+                expect("at most 128 rules", len(records) <= 128, "more")
+        expect("a line with `sequence`, or --sheet", sheet_alone or entries is not None, "neither")
+        place, entries = named_at, entries or []
+        expect("at most 640 atoms", len(entries) <= 640, "more")
+        for name in entries:
+            expect("an atom that some rule names", name in atoms, name)
+    except ValueError as error:
+        refuse(f"{path}:{place}: {error}")
+    body = b"".join(records)
+    sheet = bytes([1]) + two(5 + len(body)) + bytes([len(atoms), len(records)]) + body
+    return sheet, bytes([1]) + two(len(entries)) + bytes(atoms[name] for name in entries)
+
+
+def record(atoms, words):
+    head, rest = words[0], words[1:]
+    never = head == "never"
+    expect("`if` with a body behind it", rest[:1] == ["if"] and rest[1:] or not rest and not never, " ".join(rest))
+    head = 0 if never else number(atoms, head)
+    positives, negatives = set(), set()
+    for part in " ".join(rest[1:]).split(",") if rest else []:
+        literal = part.split()
+        negative = literal[:1] == ["not"]
+        expect("an atom, or `not` and an atom", len(literal) == 1 + negative, part.strip())
+        (negatives if negative else positives).add(number(atoms, literal[-1]))
+    parts = bytes([never, head, len(positives), *sorted(positives), *sorted(negatives)])
     return bytes([len(parts)]) + parts
 
 
 def number(atoms, name):
-    return atoms.setdefault(name, len(atoms))
+    named = re.fullmatch("[A-Za-z0-9_]+", name) and name.lower() not in RESERVED
+    expect("a name of letters, digits and _ (none of %s)" % ", ".join(RESERVED), named, name)
+    atoms.setdefault(name, len(atoms))
+    expect("at most 64 atoms", len(atoms) <= 64, "more")
+    return atoms[name]
+
+
+def expect(what, holds, found):
+    if not holds:
+        raise ValueError(f"expected {what}, found {found or 'nothing'}")
+
+
+def refuse(message):
+    print(message, file=sys.stderr)
+    sys.exit(2)
 
 
 def two(value):

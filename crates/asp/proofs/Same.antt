@@ -68,12 +68,12 @@ satisfies-in J r h =
         (all-intro (λ a. not (J a)) (r .body .neg) (λ a m. not-intro (is-false (λ t. true-false (or-right (J (r .head) || any (λ a. not (J a)) (r .body .pos)) (any-intro J (r .body .neg) a m t)) f))))
 
 -- A state satisfies document 000's reduct just when the head of each rule whose body holds in both states is in.
-models-out : (I J : State) (rs : List Rule) → all (satisfies J) (flpReduct I rs) ≡ true
+pub models-out : (I J : State) (rs : List Rule) → all (satisfies J) (flpReduct I rs) ≡ true
     → (r : Rule) → List·Memᴰ r rs → holds I (r .body) ≡ true → holds J (r .body) ≡ true → J (r .head) ≡ true
 unfolding flpReduct
 models-out I J rs h r m i j = satisfies-out J r (all-at (satisfies J) (flpReduct I rs) h r (filter-in (λ r. holds I (r .body)) rs r m i)) j
 
-models-in : (I J : State) (rs : List Rule)
+pub models-in : (I J : State) (rs : List Rule)
     → ((r : Rule) → List·Memᴰ r rs → holds I (r .body) ≡ true → holds J (r .body) ≡ true → J (r .head) ≡ true)
     → all (satisfies J) (flpReduct I rs) ≡ true
 unfolding flpReduct
@@ -102,7 +102,7 @@ module _ (P : Program) where
   lawful-out X l b m = not-elim (all-at (λ b. not (holds X b)) (P .constraints) l b m)
 
   -- A rule of the program in document 000's form is one of its rules, or a constraint's.
-  from-rules : {C : Type 0} (r : Rule) → List·Memᴰ r (normalRules P) → (List·Memᴰ r (P .rules) → C)
+  pub from-rules : {C : Type 0} (r : Rule) → List·Memᴰ r (normalRules P) → (List·Memᴰ r (P .rules) → C)
       → ((b : Body) → List·Memᴰ b (P .constraints) → bottomRule (P .atoms) b ≡ r → C) → C
   unfolding normalRules
   from-rules r m f g =
@@ -153,7 +153,7 @@ module _ (P : Program) (w : wellFormed P ≡ true) (X : State) where
     model-at r m h = models-out X X (normalRules P) (A .model) r m h h
 
     -- ⊥ is in no answer set: without it the state satisfies the reduct too.
-    bottom-free : X (P .atoms) ≡ false
+    pub bottom-free : X (P .atoms) ≡ false
     unfolding bottomRule
     bottom-free = is-false (λ t. true-false (eq-eqb (P .atoms) (P .atoms) refl) (not-elim (and-right (X (P .atoms)) (not (eqb (P .atoms) (P .atoms))) (A .minimal without less satisfied (P .atoms) t))))
       where

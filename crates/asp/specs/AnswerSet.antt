@@ -3,7 +3,8 @@ use mathlib.Core.Bool.{Bool, true, not, _||_}
 use mathlib.Core.List.{List, [], _∷_, _++_, map}
 use mathlib.Core.Path.{_≡_}
 use Prim.Native.Nat.{ℕ, suc, _<_}
-use Rattle.lists.specs.Lists.{all, any, filter}
+use lib.Dec.{eqb}
+use Rattle.lists.specs.Lists.{all, any, filter, member}
 use Rattle.asp.specs.Program.{Body, Rule, Program, State, holds}
 use Rattle.asp.specs.LeastModel.{Inside}
 
@@ -32,3 +33,13 @@ normalRules P = P .rules ++ map (bottomRule (P .atoms)) (P .constraints)
 -- An answer set of the program.
 abbrev pub IsAnswerSet : Program → State → Type 0
 IsAnswerSet P I = AnswerSet (suc (P .atoms)) (normalRules P) I
+
+-- Document 000's A(Π): the variables that occur in the rules.
+unfoldable pub occurring : List Rule → State
+occurring rs a = any (λ r. eqb (r .head) a || member a (r .body .pos) || member a (r .body .neg)) rs
+
+-- An answer set over the variables that occur: every interpretation, the smaller ones too, is a set of these.
+pub record OccurringAnswerSet (rs : List Rule) (I : State) : Type 0 where
+  pub within : Inside I (occurring rs)
+  pub model : all (satisfies I) (flpReduct I rs) ≡ true
+  pub minimal : (J : State) → Inside J (occurring rs) → Inside J I → all (satisfies J) (flpReduct I rs) ≡ true → Inside I J

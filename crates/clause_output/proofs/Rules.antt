@@ -10,7 +10,7 @@ use Rattle.lists.proofs.Nodup.{length-range}
 use Rattle.asp.specs.Program.{Body}
 use Rattle.unfolding.specs.Clauses.{Literal, positive, negative, ruleClauses, rulesClauses, constraintClause, signed, clauseWords, signedWords}
 use Rattle.writer.specs.inner.Wrote.{Wrote}
-use Rattle.writer.proofs.Writing.{wrote-append}
+use Rattle.writer.proofs.Writing.{wrote-append, wrote-length}
 use Rattle.writer.proofs.Loops.{flatMap-one, flatMap-map, RangeLeft, range-start, range-turn, range-room, range-length, range-end}
 use Rattle.copies.specs.inner.Bodies.{entryBody, bodiesBy}
 use Rattle.copies.specs.inner.Kept.{ListedAt}
@@ -58,11 +58,11 @@ module _ (pos-sets neg-sets vars : List ℕ) (h d : ℕ) (entries : List ℕ) (k
               ap (λ v. ruleWords vars h v (getD pos-sets i 0) (getD neg-sets i 0)) (L .counted)
               ∙ ap (λ x. ruleWords vars h (d + j) (getD pos-sets x 0) (getD neg-sets x 0)) (I .is)
 
-          pub rules-room : at + length (rulesWords pos-sets neg-sets vars h d entries k) < 4294967296
-              → next + length (ruleWords vars h rule (getD pos-sets i 0) (getD neg-sets i 0)) < 4294967296
+          pub rules-room : at + length (rulesWords pos-sets neg-sets vars h d entries k) ≤ length old
+              → next + length (ruleWords vars h rule (getD pos-sets i 0) (getD neg-sets i 0)) ≤ length cur
           rules-room l =
-              subst (λ ws. next + length ws < 4294967296) (sym here)
-              (range-room ruleOne old at 0 k cur next j (L .left) lt (subst (λ ws. at + length ws < 4294967296) (sym rules-are) l))
+              subst (λ ws. next + length ws ≤ length cur) (sym here)
+              (range-room ruleOne old at 0 k cur next j (L .left) lt (subst (λ ws. at + length ws ≤ length old) (sym rules-are) l))
 
           pub rules-turn : (new : List ℤ) (behind : ℕ) → Wrote cur next (ruleWords vars h rule (getD pos-sets i 0) (getD neg-sets i 0)) new behind → RulesLeft old at new behind (rule + 1) (j + 1)
           rules-turn new behind W =
@@ -99,8 +99,8 @@ module _ (pos-sets neg-sets vars : List ℕ) (old : List ℤ) (at from to : ℕ)
 
   module _ (cur : List ℤ) (next j : ℕ) (L : BacksLeft pos-sets neg-sets vars old at from to cur next j) where
     module _ (lt : j < to) where
-      pub backs-room : at + length (backsWords pos-sets neg-sets vars from to) < 4294967296 → next + length (backWords vars (getD pos-sets j 0) (getD neg-sets j 0)) < 4294967296
-      backs-room h = range-room f old at from to cur next j L lt (subst (λ ws. at + length ws < 4294967296) (sym backs-are) h)
+      pub backs-room : at + length (backsWords pos-sets neg-sets vars from to) ≤ length old → next + length (backWords vars (getD pos-sets j 0) (getD neg-sets j 0)) ≤ length cur
+      backs-room h = range-room f old at from to cur next j L lt (subst (λ ws. at + length ws ≤ length old) (sym backs-are) h)
 
       pub backs-turn : (new : List ℤ) (behind : ℕ) → Wrote cur next (backWords vars (getD pos-sets j 0) (getD neg-sets j 0)) new behind → BacksLeft pos-sets neg-sets vars old at from to new behind (j + 1)
       backs-turn new behind W = range-turn f old at from to cur next j L lt new behind W
@@ -129,8 +129,8 @@ module _ (old : List ℤ) (at from to : ℕ) where
 
   module _ (cur : List ℤ) (next v : ℕ) (L : NumbersLeft old at from to cur next v) where
     module _ (lt : v < to) where
-      pub numbers-room : at + length (numbersWords from to) < 4294967296 → next < 4294967296
-      numbers-room h = let r = range-room (λ v. pos v ∷ []) old at from to cur next v L lt (subst (λ ws. at + length ws < 4294967296) (sym (numbers-are from to)) h) in omega arith
+      pub numbers-room : at + length (numbersWords from to) ≤ length old → next < length cur
+      numbers-room h = let r = range-room (λ v. pos v ∷ []) old at from to cur next v L lt (subst (λ ws. at + length ws ≤ length old) (sym (numbers-are from to)) h) in omega arith
 
       pub numbers-turn : (new : List ℤ) (behind : ℕ) → Wrote cur next (pos v ∷ []) new behind → NumbersLeft old at from to new behind (v + 1)
       numbers-turn new behind W = range-turn (λ v. pos v ∷ []) old at from to cur next v L lt new behind W
@@ -142,13 +142,13 @@ module _ (old : List ℤ) (at from to : ℕ) where
     numbers-end l = subst (λ ws. Wrote old at ws cur next) (numbers-are from to) (range-end (λ v. pos v ∷ []) old at from to cur next v L l)
 
 -- The clause of -h and its rules' variables.
-module _ (h d k : ℕ) (old o₁ : List ℤ) (at second : ℕ) (room : at + k + 2 < 4294967296) (W₁ : Wrote old at (negℤ (pos h) ∷ []) o₁ second) where
-  pub first-second : second + length (numbersWords d (d + k)) < 4294967296
-  first-second = let m = W₁ .moved in let e = numbers-size d (d + k) in omega arith
+module _ (h d k : ℕ) (old o₁ : List ℤ) (at second : ℕ) (room : at + k + 2 ≤ length old) (W₁ : Wrote old at (negℤ (pos h) ∷ []) o₁ second) where
+  pub first-second : second + length (numbersWords d (d + k)) ≤ length o₁
+  first-second = let m = W₁ .moved in let n = wrote-length _ _ _ _ _ W₁ in let e = numbers-size d (d + k) in omega arith
 
   module _ (o₂ : List ℤ) (end : ℕ) (W₂ : Wrote o₁ second (numbersWords d (d + k)) o₂ end) where
-    pub first-third : end < 4294967296
-    first-third = let m = W₁ .moved in let m₂ = W₂ .moved in let e = numbers-size d (d + k) in omega arith
+    pub first-third : end < length o₂
+    first-third = let n = wrote-length _ _ _ _ _ W₁ in let n₂ = wrote-length _ _ _ _ _ W₂ in let m = W₁ .moved in let m₂ = W₂ .moved in let e = numbers-size d (d + k) in omega arith
 
     pub first-wrote : (new : List ℤ) (r : ℕ) → Wrote o₂ end (pos 0 ∷ []) new r → Wrote old at (firstWords h d k) new r
     unfolding firstWords numbersWords clauseWords signed

@@ -11,7 +11,7 @@ use Rattle.unfolding.specs.Clauses.{copyClauses, copiesClauses, constraintClaus
 use Rattle.bits.specs.inner.Sets.{With}
 use Rattle.program.specs.declared.ProgramTable.{ProgramTable}
 use Rattle.writer.specs.inner.Wrote.{Wrote}
-use Rattle.writer.proofs.Writing.{Left, left-start, left-turn, left-end, left-length, wrote-append}
+use Rattle.writer.proofs.Writing.{Left, left-start, left-turn, left-end, left-length, left-room, wrote-append, wrote-length}
 use Rattle.copies.specs.inner.Tables.{Values, Overlaid}
 use Rattle.copies.specs.inner.Bodies.{bodiesBy}
 use Rattle.copies.specs.inner.Made.{EntryAt, Made}
@@ -22,12 +22,12 @@ use Rattle.copies.specs.declared.EntryCopy.{EntryCopy}
 use Rattle.copies.specs.declared.KeptRules.{KeptRules}
 use Rattle.copies.proofs.Keeping.{bodies-number}
 use Rattle.copies.proofs.Emitting.{Emitting, emitting-start, emitting-end, emitting-entry, emitting-fresh, emitting-var, emitting-vars, emitting-here, emitting-turn}
-use Rattle.copies.proofs.Sizes.{copies-number, rules-short, atoms-short, constraints-by-last, constraints-few, constraints-short}
+use Rattle.copies.proofs.Sizes.{copies-number, rules-short, constraints-by-last}
 use Rattle.rule_clauses.specs.inner.Literals.{SmallVariables}
 use Rattle.rule_clauses.proofs.Rule.{signed-append}
 use Rattle.clause_output.specs.inner.Ends.{rulesWords, firstWords, copyClauseWords, copiesClauseWords, backsWords, CopyPut}
 use Rattle.clause_output.specs.declared.Ends.{Ends}
-use Rattle.clause_output.proofs.Sizes.{first-words, copies-words, constraints-words}
+use Rattle.clause_output.proofs.Sizes.{first-words}
 
 -- A copy.
 module _ (pos neg vars : List ℕ) (var : ℕ) (kept : KeptRules) (E : Ends) where
@@ -51,13 +51,13 @@ module _ (pos neg vars : List ℕ) (var : ℕ) (kept : KeptRules) (E : Ends) whe
   pub copy-numbers : E .rule < 1000000 → Inside (kept .entries) (kept .rules) → E .rule + kept .rules < 2147483648
   copy-numbers l I = let f = I .few in omega arith
 
-  module _ (room : E .at + length (copyClauseWords pos neg vars (E .rule) var kept) < 4294967296) where
-    pub copy-first : E .at + kept .rules + 2 < 4294967296
+  module _ (old : List ℤ) (room : E .at + length (copyClauseWords pos neg vars (E .rule) var kept) ≤ length old) where
+    pub copy-first : E .at + kept .rules + 2 ≤ length old
     copy-first = let e = copy-size in omega arith
 
-    pub copy-second : (old mid : List ℤ) (next : ℕ) → Wrote old (E .at) (firstWords var (E .rule) (kept .rules)) mid next
-        → next + length (rulesWords pos neg vars var (E .rule) (kept .entries) (kept .rules)) < 4294967296
-    copy-second old mid next W = let e = copy-size in let f = first-size in let m = W .moved in omega arith
+    pub copy-second : (mid : List ℤ) (next : ℕ) → Wrote old (E .at) (firstWords var (E .rule) (kept .rules)) mid next
+        → next + length (rulesWords pos neg vars var (E .rule) (kept .entries) (kept .rules)) ≤ length mid
+    copy-second mid next W = let n = wrote-length _ _ _ _ _ W in let e = copy-size in let f = first-size in let m = W .moved in omega arith
 
   pub copy-put : (old mid new : List ℤ) (next r : ℕ) → Wrote old (E .at) (firstWords var (E .rule) (kept .rules)) mid next
       → Wrote mid next (rulesWords pos neg vars var (E .rule) (kept .entries) (kept .rules)) new r → CopyPut pos neg vars var kept old new E (record { at = r; rule = E .rule + kept .rules })
@@ -76,16 +76,6 @@ module _ (t : ProgramTable) (q : List ℕ) (old : List ℤ) where
   ClausesWritten i copied latest fresh cur E = Emitting t q i copied latest fresh (ClausesLeft old total cur E)
 
 module _ (t : ProgramTable) (names sets q : List ℕ) (R : Ready t names sets q) (old : List ℤ) where
-  copies-bound : length (copiesClauseWords (unfoldedIn t q)) ≤ 42435840
-  unfolding copiesClauseWords
-  copies-bound =
-      let e = copies-words (suc (length (unfoldedIn t q .copies))) (unfoldedIn t q .copies) in
-      let f = copies-number t names sets q R in
-      let g = R .short in
-      let h = rules-short t names sets q R in
-      let i = atoms-short t names sets q R in
-      omega arith
-
   pub copies-start : ClausesWritten t q old 3 0 (replicate 64 0) (t .atoms) old (record { at = 0; rule = length q - 2 })
   unfolding copiesClauseWords
   copies-start =
@@ -122,7 +112,7 @@ module _ (t : ProgramTable) (names sets q : List ℕ) (R : Ready t names sets q)
         pub copies-var : c .var < 2147483648
         copies-var = let l = emitting-var t names sets q R i copied latest fresh Rest W within c M in omega arith
 
-        module _ (k : KeptRules) (K : Kept (t .heads) (t .pos) (t .neg) (t .rules) (c .atom) (c .component) copied k)
+        module _ (k : KeptRules) (K : Kept (t .heads) (t .pos) (t .rules) (c .atom) (c .component) copied k)
             (lasts vars : List ℕ) (F : Values last lasts) (O : Overlaid (c .component) latest lasts vars) where
           abbrev bodies : List Body
           bodies = bodiesBy (t .pos) (t .neg) vars (k .entries) (k .rules)
@@ -142,13 +132,10 @@ module _ (t : ProgramTable) (names sets q : List ℕ) (R : Ready t names sets q)
               signed-append (copyClauses (E .rule) copy) (copiesClauses (E .rule + length bodies) cs)
               ∙ ap (λ n. here ++ signedWords (copiesClauses (E .rule + n) cs)) (bodies-number (t .pos) (t .neg) vars (k .entries) (k .rules))
 
-          pub copies-room : E .at + length (copyClauseWords (t .pos) (t .neg) vars (E .rule) (c .var) k) < 4294967296
-          copies-room =
+          pub copies-room : length (copiesClauseWords (unfoldedIn t q)) ≤ length old → E .at + length (copyClauseWords (t .pos) (t .neg) vars (E .rule) (c .var) k) ≤ length cur
+          copies-room h =
               let S = emitting-here t names sets q R i copied latest fresh Rest W within c M k K lasts vars F O in
-              let e = S .holds .rest .ends in
-              let f = ap length (step (S .copies)) ∙ length-append here (signedWords (copiesClauses (E .rule + k .rules) (S .copies))) in
-              let g = copies-bound in
-              omega arith
+              left-room old 0 (total t q old) cur here _ _ (E .at) (S .holds .rest) (step (S .copies)) (let l : 0 + length (copiesClauseWords (unfoldedIn t q)) ≤ length old = omega arith in l)
 
           pub copies-turn : (marked : ℕ) → With copied (c .atom) marked → (new : List ℤ) (E′ : Ends) → CopyPut (t .pos) (t .neg) vars (c .var) k cur new E E′
               → ClausesWritten t q old (i + 1) marked (set latest (c .atom) (c .var)) (c .fresh) new E′
@@ -173,21 +160,24 @@ module _ (t : ProgramTable) (names sets q : List ℕ) (R : Ready t names sets q)
   unfolding backsWords
   constraints-written lasts F = ap (λ bs. signedWords (map constraintClause bs)) (constraints-by-last t names sets q R lasts F)
 
-  module _ (lasts : List ℕ) (F : Values last lasts) (mid : List ℤ) (at : ℕ) (W : Wrote old 0 (copiesClauseWords (unfoldedIn t q)) mid at) where
-    pub all-room : at + length (backsWords (t .pos) (t .neg) lasts (t .rules) (t .rules + t .constraints)) < 4294967296
-    all-room =
-        let w = W .moved in
-        let a = copies-bound in
-        let b = constraints-words (unfoldedIn t q .constraints) in
-        let c = constraints-short t names sets q R in
-        let d = constraints-few t names sets q R in
-        let e = ap length (constraints-written lasts F) in
-        omega arith
-
-    pub all-wrote : (new : List ℤ) (r : ℕ) → Wrote mid at (backsWords (t .pos) (t .neg) lasts (t .rules) (t .rules + t .constraints)) new r → Wrote old 0 (signedWords (clauses (unfoldedIn t q))) new r
+  module _ (lasts : List ℕ) (F : Values last lasts) where
+    all-are : signedWords (clauses (unfoldedIn t q)) ≡ copiesClauseWords (unfoldedIn t q) ++ backsWords (t .pos) (t .neg) lasts (t .rules) (t .rules + t .constraints)
     unfolding clauses copiesClauseWords
-    all-wrote new r K =
-        subst (λ ws. Wrote old 0 ws new r)
-        (ap (λ ws. copiesClauseWords (unfoldedIn t q) ++ ws) (constraints-written lasts F)
-        ∙ sym (signed-append (copiesClauses (suc (length (unfoldedIn t q .copies))) (unfoldedIn t q .copies)) (map constraintClause (unfoldedIn t q .constraints))))
-        (wrote-append _ _ _ _ _ _ _ _ W K)
+    all-are =
+        signed-append (copiesClauses (suc (length (unfoldedIn t q .copies))) (unfoldedIn t q .copies)) (map constraintClause (unfoldedIn t q .constraints))
+        ∙ sym (ap (λ ws. copiesClauseWords (unfoldedIn t q) ++ ws) (constraints-written lasts F))
+
+    module _ (room : length (signedWords (clauses (unfoldedIn t q))) ≤ length old) where
+      all-size : length (copiesClauseWords (unfoldedIn t q)) + length (backsWords (t .pos) (t .neg) lasts (t .rules) (t .rules + t .constraints)) ≤ length old
+      all-size = let e = ap length all-are ∙ length-append (copiesClauseWords (unfoldedIn t q)) (backsWords (t .pos) (t .neg) lasts (t .rules) (t .rules + t .constraints)) in omega arith
+
+      pub all-first : length (copiesClauseWords (unfoldedIn t q)) ≤ length old
+      all-first = let e = all-size in omega arith
+
+      pub all-second : (mid : List ℤ) (at : ℕ) → Wrote old 0 (copiesClauseWords (unfoldedIn t q)) mid at
+          → at + length (backsWords (t .pos) (t .neg) lasts (t .rules) (t .rules + t .constraints)) ≤ length mid
+      all-second mid at W = let e = all-size in let m = W .moved in let n = wrote-length _ _ _ _ _ W in omega arith
+
+    pub all-wrote : (mid new : List ℤ) (at r : ℕ) → Wrote old 0 (copiesClauseWords (unfoldedIn t q)) mid at
+        → Wrote mid at (backsWords (t .pos) (t .neg) lasts (t .rules) (t .rules + t .constraints)) new r → Wrote old 0 (signedWords (clauses (unfoldedIn t q))) new r
+    all-wrote mid new at r W K = subst (λ ws. Wrote old 0 ws new r) (sym all-are) (wrote-append _ _ _ _ _ _ _ _ W K)

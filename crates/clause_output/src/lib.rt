@@ -45,7 +45,7 @@ fn put_rules<'a>(
     requires { ⌜ SmallVariables (now vars) × Values last (now lasts) × Inside (kept .entries) (kept .rules)
         × (copy .var < 2147483648) × (copy .rule + kept .rules < 2147483648)
         × (at + length (rulesWords (now pos) (now neg) (now vars) (copy .var) (copy .rule) (kept .entries) (kept .rules))
-        < 4294967296) ⌝ }
+        ≤ length (now out)) ⌝ }
     ensures { λ r. ⌜ Wrote (now (out .entry)) at
         (rulesWords (now (pos .entry)) (now (neg .entry)) (now (vars .entry)) (copy .var) (copy .rule) (kept .entries) (kept .rules))
         (now (out .exit)) r ⌝ }
@@ -67,7 +67,7 @@ fn put_rules<'a>(
 
 // The variables from .. to - 1.
 fn put_range(out: &mut [i32], at: usize, from: u32, to: u32) -> usize
-    requires { ⌜ (at + length (numbersWords from to) < 4294967296) × (to < 2147483648) ⌝ }
+    requires { ⌜ (at + length (numbersWords from to) ≤ length (now out)) × (to < 2147483648) ⌝ }
     ensures { λ r. ⌜ Wrote (now (out .entry)) at (numbersWords from to) (now (out .exit)) r ⌝ }
 {
     let mut next = at;
@@ -81,7 +81,7 @@ fn put_range(out: &mut [i32], at: usize, from: u32, to: u32) -> usize
 
 // The clause of -h and its rules' variables, which are d, d + 1 and on, k of them.
 fn put_first(out: &mut [i32], at: usize, h: u32, d: u32, k: u32) -> usize
-    requires { ⌜ (at + k + 2 < 4294967296) × (h < 2147483648) × (d + k < 2147483648) ⌝ }
+    requires { ⌜ (at + k + 2 ≤ length (now out)) × (h < 2147483648) × (d + k < 2147483648) ⌝ }
     ensures { λ r. ⌜ Wrote (now (out .entry)) at (firstWords h d k) (now (out .exit)) r ⌝ }
 {
     let second = put_negated(out, at, h);
@@ -108,7 +108,7 @@ fn put_copy<'a>(
 ) -> Ends
     requires { ⌜ SmallVariables (now vars) × Values last (now lasts) × Inside (kept .entries) (kept .rules)
         × (var < 2147483648) × (ends .rule < 1000000)
-        × (ends .at + length (copyClauseWords (now pos) (now neg) (now vars) (ends .rule) var kept) < 4294967296) ⌝ }
+        × (ends .at + length (copyClauseWords (now pos) (now neg) (now vars) (ends .rule) var kept) ≤ length (now out)) ⌝ }
     ensures { λ r. ⌜ CopyPut (now (pos .entry)) (now (neg .entry)) (now (vars .entry)) var kept
         (now (out .entry)) (now (out .exit)) ends r ⌝ }
 {
@@ -137,7 +137,8 @@ fn put_copies(
     sets: &[u64; 64],
     lasts: &[u32; 64],
 ) -> usize
-    requires { ⌜ Ready t (now names) (now sets) (now q) × Values last (now lasts) ⌝ }
+    requires { ⌜ Ready t (now names) (now sets) (now q) × Values last (now lasts)
+        × (length (copiesClauseWords (unfoldedIn t (now q))) ≤ length (now out)) ⌝ }
     ensures { λ r. ⌜ Wrote (now (out .entry)) 0 (copiesClauseWords (unfoldedIn t (now (q .entry)))) (now (out .exit)) r ⌝ }
 {
     let rules = t.rules;
@@ -154,7 +155,7 @@ fn put_copies(
     while i < q.len() {
         let copy = copy_at(q, i, names, sets, &places, fresh);
         let a = copy.atom;
-        let kept = kept_rules(&t.heads, &t.pos, &t.neg, rules, a, copy.component, copied);
+        let kept = kept_rules(&t.heads, &t.pos, rules, a, copy.component, copied);
         let mut vars = *lasts;
         overlay(&mut vars, &latest, copy.component);
         ends = put_copy(out, ends, copy.var, kept, &t.pos, &t.neg, &vars, lasts);
@@ -177,7 +178,7 @@ fn put_backs<'a>(
     lasts: &[u32; 64],
 ) -> usize
     requires { ⌜ Values last (now lasts) × (to ≤ 128)
-        × (at + length (backsWords (now pos) (now neg) (now lasts) from to) < 4294967296) ⌝ }
+        × (at + length (backsWords (now pos) (now neg) (now lasts) from to) ≤ length (now out)) ⌝ }
     ensures { λ r. ⌜ Wrote (now (out .entry)) at
         (backsWords (now (pos .entry)) (now (neg .entry)) (now (lasts .entry)) from to) (now (out .exit)) r ⌝ }
 {
@@ -198,7 +199,8 @@ pub fn put_clauses(
     names: &[u8; 64],
     sets: &[u64; 64],
 ) -> usize
-    requires { ⌜ Ready t (now names) (now sets) (now q) ⌝ }
+    requires { ⌜ Ready t (now names) (now sets) (now q)
+        × (length (signedWords (clauses (unfoldedIn t (now q)))) ≤ length (now out)) ⌝ }
     ensures { λ r. ⌜ Wrote (now (out .entry)) 0 (signedWords (clauses (unfoldedIn t (now (q .entry))))) (now (out .exit)) r ⌝ }
 {
     let from = t.rules;

@@ -1,2 +1,4 @@
-pub mod Signs
-pub mod Room
+pub mod Parts
+pub mod Sizes
+pub mod Texts
+pub mod Claims

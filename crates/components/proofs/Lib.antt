@@ -3,3 +3,4 @@ pub mod Closing
 pub mod Linking
 pub mod Naming
 pub mod Graphs
+pub mod Claims

@@ -18,7 +18,7 @@ use Rattle.bits.specs.inner.Sets.{has, With, Size}
 use Rattle.bits.specs.inner.Visited.{listed, Lowest, Rest}
 use Rattle.bits.proofs.Digits.{zero-has}
 use Rattle.bits.proofs.Visiting.{listed-lowest, listed-none, has-some, rest-is}
-use Rattle.components.specs.inner.Reachability.{bothWays, NameOf, NamedBy, SetsOf, named, namesFit, SetsFit}
+use Rattle.components.specs.inner.Reachability.{bothWays, NameOf, NamedBy, NamesLow, SetsOf, named, namesFit, SetsFit}
 
 -- The first number that passes both tests, by the list of those that pass the one.
 first-filter : (p q : ℕ → Bool) (d : ℕ) (l : List ℕ) → first (λ b. p b && q b) d l ≡ first q d (filter p l)
@@ -82,8 +82,8 @@ pub record Naming (n : ℕ) (rows : List ℕ) (a : ℕ) (names : List ℕ) : Typ
   pub done : (i : ℕ) → i < a → NameOf rows i (getD names i 0)
 
 module _ (n : ℕ) (rows : List ℕ) where
-  pub naming-start : Naming n rows 0 (replicate 64 0)
-  naming-start = record { long = length-replicate {A = ℕ} 64 0; done = λ i l. absurd (omega arith) }
+  pub naming-start : (names : List ℕ) → length names ≡ 64 → Naming n rows 0 names
+  naming-start names l = record { long = l; done = λ i l. absurd (omega arith) }
 
   pub naming-turn : (a r : ℕ) (names : List ℕ) → Naming n rows a names → a < 64 → NameOf rows a r → Naming n rows (a + 1) (set names a (r % 256))
   naming-turn a r names K l S =
@@ -98,11 +98,15 @@ module _ (n : ℕ) (rows : List ℕ) where
   pub naming-end : (a : ℕ) (names : List ℕ) → Naming n rows a names → n ≤ a → NamedBy n rows names
   naming-end a names K l = record { long = K .long; name = λ i h. K .done i (omega arith) }
 
-  pub name-low : (a d : ℕ) (names : List ℕ) → NamedBy n rows names → a < n → n ≤ 64 → d ≡ getD names a 0 → d < 64
-  name-low a d names N l m e = let h = N .name a l .low in omega arith
+  pub named-low : (names : List ℕ) → NamedBy n rows names → n ≤ 64 → NamesLow n names
+  named-low names N m = record { low = λ a l. let h = N .name a l .low in omega arith }
 
-  pub name-scale : (a d : ℕ) (names : List ℕ) → NamedBy n rows names → a < n → n ≤ 64 → d ≡ getD names a 0 → d * 8 < 2 ^ 64
-  name-scale a d names N l m e = let h = name-low a d names N l m e in omega arith
+module _ (n : ℕ) (names : List ℕ) (N : NamesLow n names) where
+  pub name-low : (a d : ℕ) → a < n → d ≡ getD names a 0 → d < 64
+  name-low a d l e = let h = N .low a l in omega arith
+
+  pub name-scale : (a d : ℕ) → a < n → d ≡ getD names a 0 → d * 8 < 2 ^ 64
+  name-scale a d l e = let h = name-low a d l e in omega arith
 
 -- The sets so far.
 pub record Grouping (names : List ℕ) (a : ℕ) (sets : List ℕ) : Type 0 where
@@ -110,8 +114,8 @@ pub record Grouping (names : List ℕ) (a : ℕ) (sets : List ℕ) : Type 0 wher
   pub members : (c : ℕ) → c < 64 → (b : ℕ) → has (getD sets c 0) b ≡ (ltb b a && eqb (getD names b 0) c)
 
 module _ (names : List ℕ) where
-  pub grouping-start : Grouping names 0 (replicate 64 0)
-  grouping-start = record { long = length-replicate {A = ℕ} 64 0; members = λ c l b. rw (getD-replicate {A = ℕ} 64 c 0 0 l, zero-has b, le-ltb b 0 (omega arith)) refl }
+  pub grouping-start : (sets : List ℕ) → sets ≡ replicate 64 0 → Grouping names 0 sets
+  grouping-start sets e = rw e record { long = length-replicate {A = ℕ} 64 0; members = λ c l b. rw (getD-replicate {A = ℕ} 64 c 0 0 l, zero-has b, le-ltb b 0 (omega arith)) refl }
 
   pub grouping-turn : (a d r : ℕ) (sets : List ℕ) → Grouping names a sets → d ≡ getD names a 0 → d < 64 → With (getD sets d 0) a r → Grouping names (a + 1) (set sets d r)
   grouping-turn a d r sets K e low W =

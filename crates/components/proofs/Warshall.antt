@@ -66,7 +66,7 @@ module _ (P : Program) (wf : wellFormed P ≡ true) where
   complete a b la r ne l =
       ⊎-elim (λ e. absurd (ne (sym (eqb-true b a e)))) (λ c. c)
       (or-cases (eqb b a) (closure (into P) (P .atoms) a b)
-      (reach-induction P wf b l (λ x. eqb b x || closure (into P) (P .atoms) x b) (or-left (closure (into P) (P .atoms) b b) (eq-eqb b b refl)) step a r))
+      (reach-induction P wf b l (λ x. (eqb b x || closure (into P) (P .atoms) x b) ≡ true) (or-left (closure (into P) (P .atoms) b b) (eq-eqb b b refl)) step a r))
     where
       step : (d x : ℕ) → d < P .atoms → (eqb b d || closure (into P) (P .atoms) d b) ≡ true → edge P d x ≡ true → (eqb b x || closure (into P) (P .atoms) x b) ≡ true
       step d x h y e =

@@ -1,2 +1,3 @@
 pub mod Limit
+pub mod Claims
 pub mod inner

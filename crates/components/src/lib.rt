@@ -6,23 +6,30 @@ use bits::size;
 use bits::union;
 use bits::wide;
 use bits::with;
-use program::ProgramTable;
 ghost use mathlib.Core.Path.{_≡_};
 ghost use Prim.Native.Nat.{_≤_, _<_};
-ghost use lib.ListN.{length};
-ghost use Rattle.program.specs.inner.Held.{programIn, Readable};
-ghost use Rattle.components.specs.inner.Reachability.{Linked, RowThrough, ClosedBy, ClosedTable, NameOf, NamedBy, SetsOf, SetsFit, ComponentsOf};
-
-// Row a holds the atoms that have an edge to a, and in the end all that lead to a.
-pub struct Reach {
-    pub rows: [u64; 64],
-}
+ghost use lib.ListN.{length, replicate};
+ghost use Rattle.components.specs.inner.Reachability.{Linked, HeadsLow, EdgesAt, RowThrough, ClosedBy, ClosedTable};
+ghost use Rattle.components.specs.inner.Reachability.{NameOf, NamedBy, NamesLow, SetsOf, SetsFit, GraphOf};
 
 // A row with the positive atoms of a rule.
 fn with_edges(row: u64, pos: u64) -> u64
     ensures { λ r. ⌜ Linked row pos r ⌝ }
 {
     union(row, pos)
+}
+
+// The edges of the first so many rules, each in the row of the atom that it leads to.
+fn store_edges<'a>(rows: &mut [u64; 64], heads: &'a [u8; 128], pos: &'a [u64; 128], rules: usize)
+    requires { ⌜ (now rows ≡ replicate 64 0) × (rules ≤ 128) × HeadsLow rules (now heads) ⌝ }
+    ensures { λ r. ⌜ EdgesAt (now (heads .entry)) (now (pos .entry)) rules (now (rows .exit)) ⌝ }
+{
+    let mut j = 0;
+    while j < rules {
+        let h = wide(heads[j]);
+        rows[h] = with_edges(rows[h], pos[j]);
+        j += 1;
+    }
 }
 
 // One row of a round for k, whose own row is given.
@@ -49,19 +56,15 @@ fn close_by(rows: &mut [u64; 64], k: usize, n: usize)
     }
 }
 
-impl Reach {
-    // The rounds for 0 .. n - 1.
-    fn close(self, n: usize) -> Reach
-        requires { ⌜ (length (self .rows) ≡ 64) × (n ≤ 64) ⌝ }
-        ensures { λ r. ⌜ ClosedTable n (self .rows) (r .rows) ⌝ }
-    {
-        let mut rows = self.rows;
-        let mut k = 0;
-        while k < n {
-            close_by(&mut rows, k, n);
-            k += 1;
-        }
-        Reach { rows }
+// The rounds for 0 .. n - 1.
+fn close(rows: &mut [u64; 64], n: usize)
+    requires { ⌜ (length (now rows) ≡ 64) × (n ≤ 64) ⌝ }
+    ensures { λ r. ⌜ ClosedTable n (now (rows .entry)) (now (rows .exit)) ⌝ }
+{
+    let mut k = 0;
+    while k < n {
+        close_by(rows, k, n);
+        k += 1;
     }
 }
 
@@ -84,47 +87,28 @@ fn name_of(rows: &[u64; 64], a: usize) -> usize
     a
 }
 
-// For each atom the name of its component, which is its smallest atom.
-pub struct Names {
-    pub names: [u8; 64],
-}
-
-impl Reach {
-    // The names of the first n atoms' components, of a closed table.
-    fn names(self, n: usize) -> Names
-        requires { ⌜ n ≤ 64 ⌝ }
-        ensures { λ r. ⌜ NamedBy n (self .rows) (r .names) ⌝ }
-    {
-        let rows = self.rows;
-        let mut names = [0u8; 64];
-        let mut a = 0;
-        while a < n {
-            names[a] = (name_of(&rows, a) % 256) as u8;
-            a += 1;
-        }
-        Names { names }
+// The names of the first n atoms' components, of a closed table: their smallest atoms.
+fn store_names(names: &mut [u8; 64], rows: &[u64; 64], n: usize)
+    requires { ⌜ (length (now names) ≡ 64) × (n ≤ 64) ⌝ }
+    ensures { λ r. ⌜ NamedBy n (now (rows .entry)) (now (names .exit)) ⌝ }
+{
+    let mut a = 0;
+    while a < n {
+        names[a] = (name_of(rows, a) % 256) as u8;
+        a += 1;
     }
 }
 
-// For each name the atoms that have it.
-pub struct Sets {
-    pub of: [u64; 64],
-}
-
-impl Names {
-    // The sets of the first n atoms' names, of a closed table.
-    fn sets(self, rows: &[u64; 64], n: usize) -> Sets
-        requires { ⌜ (n ≤ 64) × NamedBy n (now rows) (self .names) ⌝ }
-        ensures { λ r. ⌜ SetsOf (self .names) n (r .of) ⌝ }
-    {
-        let mut of = [0u64; 64];
-        let mut a = 0;
-        while a < n {
-            let c = wide(self.names[a]);
-            of[c] = with(of[c], a);
-            a += 1;
-        }
-        Sets { of }
+// For each name of the first n atoms the atoms that have it.
+fn store_sets(sets: &mut [u64; 64], names: &[u8; 64], n: usize)
+    requires { ⌜ (now sets ≡ replicate 64 0) × (n ≤ 64) × NamesLow n (now names) ⌝ }
+    ensures { λ r. ⌜ SetsOf (now (names .entry)) n (now (sets .exit)) ⌝ }
+{
+    let mut a = 0;
+    while a < n {
+        let c = wide(names[a]);
+        sets[c] = with(sets[c], a);
+        a += 1;
     }
 }
 
@@ -151,26 +135,24 @@ pub struct Components {
     pub sets: [u64; 64],
 }
 
-// The components of a program.
-pub fn components_of(t: ProgramTable) -> Components
-    requires { ⌜ Readable t ⌝ }
-    ensures { λ r. ⌜ ComponentsOf (programIn t) r ⌝ }
+// The components of a program of n atoms, by its rules' heads and positive atoms.
+pub fn components_of<'a>(
+    n: usize,
+    rules: usize,
+    heads: &'a [u8; 128],
+    pos: &'a [u64; 128],
+) -> Components
+    requires { ⌜ (n ≤ 64) × (rules ≤ 128) × HeadsLow rules (now heads) ⌝ }
+    ensures { λ r. ⌜ GraphOf n rules (now (heads .entry)) (now (pos .entry)) r ⌝ }
 {
-    let n = t.atoms;
-    let m = t.rules;
     let mut edges = [0u64; 64];
-    let mut j = 0;
-    while j < m {
-        let h = wide(t.heads[j]);
-        edges[h] = with_edges(edges[h], t.pos[j]);
-        j += 1;
-    }
-    let closed = Reach { rows: edges }.close(n);
-    let named = closed.names(n);
-    let ancestors = closed.rows;
-    let grouped = named.sets(&ancestors, n);
-    let names = named.names;
-    let sets = grouped.of;
+    let mut names = [0u8; 64];
+    let mut sets = [0u64; 64];
+    store_edges(&mut edges, heads, pos, rules);
+    let mut ancestors = edges;
+    close(&mut ancestors, n);
+    store_names(&mut names, &ancestors, n);
+    store_sets(&mut sets, &names, n);
     Components {
         edges,
         ancestors,

@@ -48,7 +48,7 @@ module _ (t : ProgramTable) (names sets q : List ℕ) (R : Ready t names sets q)
         pub emitting-var : c .var < 1024
         emitting-var = var-small t names sets q R i (E .left .extra) (E .left .past) (E .left .few) within latest fresh (E .left .rest .tracks) c M
 
-        module _ (k : KeptRules) (K : Kept (t .heads) (t .pos) (t .neg) (t .rules) (c .atom) (c .component) copied k)
+        module _ (k : KeptRules) (K : Kept (t .heads) (t .pos) (t .rules) (c .atom) (c .component) copied k)
             (lasts vars : List ℕ) (F : Values last lasts) (O : Overlaid (c .component) latest lasts vars) where
           abbrev copy : Copy
           copy = record { atom = c .atom; var = c .var; kept = bodiesBy (t .pos) (t .neg) vars (k .entries) (k .rules) }

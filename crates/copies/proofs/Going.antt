@@ -171,7 +171,7 @@ module _ (t : ProgramTable) (names sets q : List ℕ) (R : Ready t names sets q)
 
   -- The rules of the copy, over the variables that stand in them.
   module _ (copied-set : ℕ) (marks : (b : ℕ) → has copied-set b ≡ copied past b) (k : KeptRules)
-      (K : Kept (t .heads) (t .pos) (t .neg) (t .rules) (c .atom) (c .component) copied-set k)
+      (K : Kept (t .heads) (t .pos) (t .rules) (c .atom) (c .component) copied-set k)
       (lasts vars : List ℕ) (F : Values last lasts) (O : Overlaid (c .component) table lasts vars) where
     stands : (b : ℕ) → b < t .atoms → getD vars b 0 ≡ replaced (programIn t) past (getD q i 0) b
     unfolding replaced
@@ -183,8 +183,8 @@ module _ (t : ProgramTable) (names sets q : List ℕ) (R : Ready t names sets q)
 
     pub copy-is : copyOf t q i e past ≡ record { atom = c .atom; var = c .var; kept = bodiesBy (t .pos) (t .neg) vars (k .entries) (k .rules) }
     copy-is =
-        let at-atom = subst (λ x. Kept (t .heads) (t .pos) (t .neg) (t .rules) x (componentSet names sets x) copied-set k) (M .atom)
-        (subst (λ x. Kept (t .heads) (t .pos) (t .neg) (t .rules) (c .atom) x copied-set k) (M .component) K) in
+        let at-atom = subst (λ x. Kept (t .heads) (t .pos) (t .rules) x (componentSet names sets x) copied-set k) (M .atom)
+        (subst (λ x. Kept (t .heads) (t .pos) (t .rules) (c .atom) x copied-set k) (M .component) K) in
         let bodies = kept-bodies t names sets q R past copied-set marks (getD q i 0) a-low k at-atom vars stands in
         rw (M .atom, var-is, bodies) refl
 

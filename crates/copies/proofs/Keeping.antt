@@ -1,12 +1,12 @@
 -- Laws of the rules kept for a copy.
 use mathlib.Core.Bool.{Bool, true, false, not, _||_, cond}
-use mathlib.Core.List.{List, [], _∷_, _++_, map, map-map, append-assoc, append-nil}
+use mathlib.Core.List.{List, [], _∷_, _++_, map, append-assoc, append-nil, List·Memᴰ, List·Memᴰ·head, List·Memᴰ·tail}
 use mathlib.Core.Path.{_≡_, refl, sym, _∙_, ap, subst}
 use Prim.Native.Nat.{ℕ, _+_, _-_, _*_, _^_, _≤_, _<_}
 use native.Mathlib.Omega.{arith}
-use borrow.Author.Tests.{eq-eqb, ne-eqb, eqb-false}
+use borrow.Author.Tests.{eq-eqb, ne-eqb, eqb-true, eqb-false}
 use lib.Dec.{eqb}
-use lib.ListN.{length, length-map, getD, set, length-set, replicate, length-replicate}
+use lib.ListN.{length, length-map, getD, set, length-set, replicate, length-replicate, getD-replicate}
 use Rattle.lists.specs.Lists.{filter, range}
 use Rattle.lists.proofs.Bools.{by-bool, bool-ext, true-false}
 use Rattle.lists.proofs.Members.{all-at, all-intro, member-in, member-out, range-left, range-over}
@@ -19,7 +19,7 @@ use Rattle.bits.proofs.Visiting.{listed-few, listed-member}
 use Rattle.program.specs.inner.Held.{bodyOf, bodiesAt}
 use Rattle.copies.specs.inner.Bodies.{entryBody, bodiesBy, bodyAtoms, atomCount, atomsAt}
 use Rattle.copies.proofs.Tables.{stored}
-use Rattle.copies.specs.inner.Kept.{keeps, keptEntries, Inside, ListedAt, Kept}
+use Rattle.copies.specs.inner.Kept.{keeps, keptEntries, Inside, ListedAt, Kept, SmallSizes, SizesOf, sumAt, KeptCounted}
 
 -- Whether a rule is kept.
 module _ (a component copied head pos : ℕ) where
@@ -53,14 +53,8 @@ pub atoms-few : (pos neg : ℕ) → bodyAtoms pos neg ≤ 128
 unfolding bodyAtoms
 atoms-few pos neg = let p = listed-few pos in let n = listed-few neg in omega arith
 
-pub body-yes : (b : Bool) (x k : ℕ) (pos neg : ℕ) → b ≡ true → k ≡ bodyAtoms pos neg → x + k ≡ cond b (x + bodyAtoms pos neg) x
-body-yes b x k pos neg t e = rw t (ap (λ y. x + y) e)
-
-pub body-room : (x k pos neg : ℕ) → k ≡ bodyAtoms pos neg → x < 4294967296 → x + k < 2 ^ 64
-body-room x k pos neg e l = let f = atoms-few pos neg in omega arith
-
-pub next-yes : (b : Bool) (x : ℕ) → b ≡ true → x + 1 ≡ cond b (x + 1) x
-next-yes b x t = sym (rw t refl)
+pub add-yes : (b : Bool) (x k : ℕ) → b ≡ true → x + k ≡ cond b (x + k) x
+add-yes b x k t = sym (rw t refl)
 
 -- How many atoms bodies have.
 pub atoms-append : (xs ys : List Body) → atomCount (xs ++ ys) ≡ atomCount xs + atomCount ys
@@ -73,105 +67,199 @@ unfolding atomCount bodyOf bodyAtoms
 atoms-one pos neg = omega arith
 
 -- The loop over the rules: of the first j these are kept.
-pub record Keeping (heads pos neg : List ℕ) (rules a component copied j : ℕ) (entries : List ℕ) (kept atoms : ℕ) : Type 0 where
+pub record Keeping (heads pos : List ℕ) (rules a component copied j : ℕ) (entries : List ℕ) (kept : ℕ) : Type 0 where
   pub long : length entries ≡ 128
   pub few : kept ≤ j
   pub within : j ≤ rules
-  pub small : atoms ≤ 128 * j
   pub low : (i : ℕ) → i < kept → getD entries i 0 < 128
-  pub so-far : atoms ≡ atomCount (map (λ j. bodyOf (getD pos (getD entries j 0) 0) (getD neg (getD entries j 0) 0)) (range 0 kept))
   pub rest : map (λ j. getD entries j 0) (range 0 kept) ++ filter (λ i. keeps a component copied (getD heads i 0) (getD pos i 0)) (range j (rules - j)) ≡ keptEntries heads pos rules a component copied
 
-module _ (heads pos neg : List ℕ) (rules a component copied : ℕ) where
+module _ (heads pos : List ℕ) (rules a component copied : ℕ) where
   abbrev keep : ℕ → Bool
   keep i = keeps a component copied (getD heads i 0) (getD pos i 0)
 
-  abbrev body : ℕ → Body
-  body i = bodyOf (getD pos i 0) (getD neg i 0)
+  abbrev left : ℕ → List ℕ
+  left j = filter keep (range j (rules - j))
 
   abbrev firsts : List ℕ → ℕ → List ℕ
   firsts entries k = map (λ j. getD entries j 0) (range 0 k)
 
-  abbrev bodies : List ℕ → ℕ → List Body
-  bodies entries k = map (λ j. body (getD entries j 0)) (range 0 k)
+  left-all : left 0 ≡ keptEntries heads pos rules a component copied
+  unfolding keptEntries
+  left-all = ap (λ k. filter keep (range 0 k)) (let e : rules - 0 ≡ rules = omega arith in e)
 
-  pub keeping-start : Keeping heads pos neg rules a component copied 0 (replicate 128 0) 0 0
-  unfolding range atomCount keptEntries
+  left-yes : (j : ℕ) → j < rules → keep j ≡ true → left j ≡ j ∷ left (j + 1)
+  unfolding filter
+  left-yes j lt t = ap (filter keep) (range-left j rules lt) ∙ rw t refl
+
+  left-no : (j : ℕ) → j < rules → keep j ≡ false → left j ≡ left (j + 1)
+  unfolding filter
+  left-no j lt f = ap (filter keep) (range-left j rules lt) ∙ rw f refl
+
+  left-none : (j : ℕ) → rules ≤ j → left j ≡ []
+  unfolding filter
+  left-none j l = ap (filter keep) (range-over j rules l)
+
+  pub keeping-start : Keeping heads pos rules a component copied 0 (replicate 128 0) 0
+  unfolding range
   keeping-start =
       record {
         long = length-replicate {A = ℕ} 128 0;
         few = omega arith;
         within = omega arith;
-        small = omega arith;
         low = λ i h. absurd (omega arith);
-        so-far = refl;
-        rest = ap (λ k. filter keep (range 0 k)) (let e : rules - 0 ≡ rules = omega arith in e);
+        rest = left-all;
       }
 
-  module _ (j : ℕ) (entries : List ℕ) (kept atoms : ℕ) (K : Keeping heads pos neg rules a component copied j entries kept atoms) where
+  module _ (j : ℕ) (entries : List ℕ) (kept : ℕ) (K : Keeping heads pos rules a component copied j entries kept) where
     module _ (lt : j < rules) (most : rules ≤ 128) where
       index : kept < length entries
       index = let f = K .few in let l = K .long in omega arith
 
-      abbrev Next : ℕ → ℕ → Type 0
-      Next = Keeping heads pos neg rules a component copied (j + 1) (set entries kept j)
-
-      rest-yes : keep j ≡ true → filter keep (range j (rules - j)) ≡ j ∷ filter keep (range (j + 1) (rules - (j + 1)))
-      unfolding filter
-      rest-yes t = ap (filter keep) (range-left j rules lt) ∙ rw t refl
-
-      rest-no : keep j ≡ false → filter keep (range j (rules - j)) ≡ filter keep (range (j + 1) (rules - (j + 1)))
-      unfolding filter
-      rest-no f = ap (filter keep) (range-left j rules lt) ∙ rw f refl
+      abbrev Next : ℕ → Type 0
+      Next = Keeping heads pos rules a component copied (j + 1) (set entries kept j)
 
       low-more : (i : ℕ) → i < kept + 1 → getD (set entries kept j) i 0 < 128
       low-more i h = subst (λ x. x < 128) (sym (stored entries kept j i index)) (by-bool (eqb i kept) (λ t. rw t (omega arith)) (λ f. rw f (let ne = eqb-false i kept f in K .low i (omega arith))))
 
-      yes : keep j ≡ true → Next (kept + 1) (atoms + bodyAtoms (getD pos j 0) (getD neg j 0))
+      yes : keep j ≡ true → Next (kept + 1)
       yes t =
           record {
             long = length-set entries kept j ∙ K .long;
             few = let f = K .few in omega arith;
             within = omega arith;
-            small = let f = K .small in let g = atoms-few (getD pos j 0) (getD neg j 0) in omega arith;
             low = low-more;
-            so-far = let u = K .so-far in let v = ap atomCount (table-more body entries kept j index) ∙ atoms-append (bodies entries kept) (body j ∷ []) in
-                let w = atoms-one (getD pos j 0) (getD neg j 0) in omega arith;
-            rest = ap (λ es. es ++ filter keep (range (j + 1) (rules - (j + 1)))) (table-more (λ i. i) entries kept j index)
-                ∙ (append-assoc (firsts entries kept) (j ∷ []) (filter keep (range (j + 1) (rules - (j + 1))))
-                ∙ (ap (λ es. firsts entries kept ++ es) (sym (rest-yes t)) ∙ K .rest));
+            rest = ap (λ es. es ++ left (j + 1)) (table-more (λ i. i) entries kept j index)
+                ∙ (append-assoc (firsts entries kept) (j ∷ []) (left (j + 1)) ∙ (ap (λ es. firsts entries kept ++ es) (sym (left-yes j lt t)) ∙ K .rest));
           }
 
-      no : keep j ≡ false → Next kept atoms
+      no : keep j ≡ false → Next kept
       no f =
           record {
             long = length-set entries kept j ∙ K .long;
             few = let f = K .few in omega arith;
             within = omega arith;
-            small = let f = K .small in omega arith;
             low = λ i h. low-more i (omega arith);
-            so-far = K .so-far ∙ ap atomCount (sym (table-same body entries kept j));
-            rest = ap (λ es. es ++ filter keep (range (j + 1) (rules - (j + 1)))) (table-same (λ i. i) entries kept j)
-                ∙ (ap (λ es. firsts entries kept ++ es) (sym (rest-no f)) ∙ K .rest);
+            rest = ap (λ es. es ++ left (j + 1)) (table-same (λ i. i) entries kept j) ∙ (ap (λ es. firsts entries kept ++ es) (sym (left-no j lt f)) ∙ K .rest);
           }
 
-      pub keeping-turn : (b : Bool) (kept′ atoms′ : ℕ) → b ≡ keeps a component copied (getD heads j 0) (getD pos j 0) → kept′ ≡ cond b (kept + 1) kept
-          → atoms′ ≡ cond b (atoms + bodyAtoms (getD pos j 0) (getD neg j 0)) atoms → Next kept′ atoms′
-      keeping-turn b kept′ atoms′ e f g =
-          by-bool b
-          (λ t. rw (f, g, t) (yes (sym e ∙ t)))
-          (λ t. rw (f, g, t) (no (sym e ∙ t)))
+      pub keeping-turn : (b : Bool) (kept′ : ℕ) → b ≡ keeps a component copied (getD heads j 0) (getD pos j 0) → kept′ ≡ cond b (kept + 1) kept → Next kept′
+      keeping-turn b kept′ e f = by-bool b (λ t. rw (f, t) (yes (sym e ∙ t))) (λ t. rw (f, t) (no (sym e ∙ t)))
 
-    pub keeping-end : rules ≤ j → rules ≤ 128 → Kept heads pos neg rules a component copied (record { entries = entries; rules = kept; atoms = atoms })
-    unfolding filter
+    pub keeping-end : rules ≤ j → rules ≤ 128 → Kept heads pos rules a component copied (record { entries = entries; rules = kept })
     keeping-end l most =
-        let all-of : firsts entries kept ≡ keptEntries heads pos rules a component copied =
-        sym (append-nil (firsts entries kept)) ∙ (ap (λ es. firsts entries kept ++ es) (sym (ap (filter keep) (range-over j rules l))) ∙ K .rest) in
         record {
-          entries = all-of;
-          atoms = K .so-far ∙ ap atomCount (sym (map-map body (λ j. getD entries j 0) (range 0 kept)) ∙ ap (map body) all-of);
+          entries = sym (append-nil (firsts entries kept)) ∙ (ap (λ es. firsts entries kept ++ es) (sym (left-none j l)) ∙ K .rest);
           inside = record { few = let f = K .few in let w = K .within in omega arith; low = K .low };
         }
+
+  -- The loop over the rules that only counts: with those that are left the numbers are those of all.
+  module _ (sizes : List ℕ) where
+    abbrev kept-all : List ℕ
+    kept-all = keptEntries heads pos rules a component copied
+
+    pub record CountedLeft (kept atoms j : ℕ) : Type 0 where
+      pub few : kept ≤ j
+      pub low : atoms ≤ 128 * j
+      pub number : kept + length (left j) ≡ length kept-all
+      pub sum : atoms + sumAt sizes (left j) ≡ sumAt sizes kept-all
+
+    pub counted-start : CountedLeft 0 0 0
+    counted-start = let e = ap length left-all in let f = ap (sumAt sizes) left-all in record { few = omega arith; low = omega arith; number = omega arith; sum = omega arith }
+
+    module _ (kept atoms j : ℕ) (K : CountedLeft kept atoms j) where
+      pub counted-room : j < rules → rules ≤ 128 → SmallSizes sizes → (k : ℕ) → k ≡ getD sizes j 0 → atoms + k < 4294967296
+      counted-room lt most S k e = let v = K .low in let f = S .low j (omega arith) in omega arith
+
+      module _ (lt : j < rules) (most : rules ≤ 128) (S : SmallSizes sizes) where
+        counted-yes : keep j ≡ true → CountedLeft (kept + 1) (atoms + getD sizes j 0) (j + 1)
+        unfolding sumAt
+        counted-yes t =
+            let e = ap length (left-yes j lt t) in
+            let f = ap (sumAt sizes) (left-yes j lt t) in
+            let n = K .number in
+            let s = K .sum in
+            let w = K .few in
+            let v = K .low in
+            let z = S .low j (omega arith) in
+            record { few = omega arith; low = omega arith; number = omega arith; sum = omega arith }
+
+        counted-no : keep j ≡ false → CountedLeft kept atoms (j + 1)
+        counted-no t =
+            let e = ap length (left-no j lt t) in
+            let f = ap (sumAt sizes) (left-no j lt t) in
+            let n = K .number in
+            let s = K .sum in
+            let w = K .few in
+            let v = K .low in
+            record { few = omega arith; low = omega arith; number = omega arith; sum = omega arith }
+
+        pub counted-turn : (b : Bool) (kept′ atoms′ k : ℕ) → b ≡ keeps a component copied (getD heads j 0) (getD pos j 0) → k ≡ getD sizes j 0
+            → kept′ ≡ cond b (kept + 1) kept → atoms′ ≡ cond b (atoms + k) atoms → CountedLeft kept′ atoms′ (j + 1)
+        counted-turn b kept′ atoms′ k e z f g =
+            by-bool b
+            (λ t. rw (f, g, z, t) (counted-yes (sym e ∙ t)))
+            (λ t. rw (f, g, t) (counted-no (sym e ∙ t)))
+
+      pub counted-end : rules ≤ j → KeptCounted heads pos sizes rules a component copied (record { rules = kept; atoms = atoms })
+      unfolding sumAt
+      counted-end l =
+          let e = ap length (left-none j l) in
+          let f = ap (sumAt sizes) (left-none j l) in
+          let n = K .number in
+          let s = K .sum in
+          record { number = omega arith; sum = omega arith }
+
+-- The loop over the bodies whose sizes are stored.
+pub record Sizing (pos neg : List ℕ) (rules : ℕ) (sizes : List ℕ) (j : ℕ) : Type 0 where
+  pub long : length sizes ≡ 128
+  pub within : j ≤ rules
+  pub so-far : SizesOf pos neg j sizes
+
+module _ (pos neg : List ℕ) where
+  pub sizing-start : (rules : ℕ) → Sizing pos neg rules (replicate 128 0) 0
+  sizing-start rules =
+      record {
+        long = length-replicate {A = ℕ} 128 0;
+        within = omega arith;
+        so-far = record { is = λ i l. absurd (omega arith); small = record { low = λ i l. let e = getD-replicate {A = ℕ} 128 i 0 0 l in omega arith } };
+      }
+
+  pub sizing-fits : (j k : ℕ) → k ≡ bodyAtoms (getD pos j 0) (getD neg j 0) → k < 256
+  sizing-fits j k e = let f = atoms-few (getD pos j 0) (getD neg j 0) in omega arith
+
+  module _ (rules : ℕ) (sizes : List ℕ) (j : ℕ) (S : Sizing pos neg rules sizes j) (lt : j < rules) (most : rules ≤ 128) where
+    pub sizing-turn : (k : ℕ) → k ≡ bodyAtoms (getD pos j 0) (getD neg j 0) → Sizing pos neg rules (set sizes j k) (j + 1)
+    sizing-turn k e =
+        record { long = length-set sizes j k ∙ S .long; within = omega arith; so-far = record { is = same; small = record { low = few } } }
+      where
+        index : j < length sizes
+        index = let z = S .long in omega arith
+
+        same : (i : ℕ) → i < j + 1 → getD (set sizes j k) i 0 ≡ bodyAtoms (getD pos i 0) (getD neg i 0)
+        same i h =
+            stored sizes j k i index
+            ∙ by-bool (eqb i j)
+            (λ t. rw t (e ∙ ap (λ x. bodyAtoms (getD pos x 0) (getD neg x 0)) (sym (eqb-true i j t))))
+            (λ f. rw f (let ne = eqb-false i j f in S .so-far .is i (omega arith)))
+
+        few : (i : ℕ) → i < 128 → getD (set sizes j k) i 0 ≤ 128
+        few i h =
+            subst (λ x. x ≤ 128) (sym (stored sizes j k i index))
+            (by-bool (eqb i j) (λ t. rw t (let f = atoms-few (getD pos j 0) (getD neg j 0) in omega arith)) (λ f. rw f (S .so-far .small .low i h)))
+
+  pub sizing-end : (rules : ℕ) (sizes : List ℕ) (j : ℕ) → Sizing pos neg rules sizes j → rules ≤ j → SizesOf pos neg rules sizes
+  sizing-end rules sizes j S l = record { is = λ i h. S .so-far .is i (omega arith); small = S .so-far .small }
+
+  -- The sum of the sizes of some bodies.
+  pub sum-atoms : (rules : ℕ) (sizes : List ℕ) → SizesOf pos neg rules sizes → (l : List ℕ) → ((i : ℕ) → List·Memᴰ i l → i < rules)
+      → sumAt sizes l ≡ atomCount (map (λ i. bodyOf (getD pos i 0) (getD neg i 0)) l)
+  unfolding sumAt atomCount bodyOf bodyAtoms
+  sum-atoms rules sizes S [] h = refl
+  sum-atoms rules sizes S (i ∷ l) h =
+      let e = S .is i (h i (List·Memᴰ·head refl)) in
+      let f = sum-atoms rules sizes S l (λ j m. h j (List·Memᴰ·tail m)) in
+      omega arith
 
 -- The loop over the entries whose atoms are counted.
 pub record Adding (pos neg : List ℕ) (from to atoms j : ℕ) : Type 0 where

@@ -10,7 +10,6 @@ use lib.ListN.{length, length-map, getD}
 use Rattle.lists.specs.Lists.{all, below, filter, range}
 use Rattle.lists.proofs.Bools.{by-bool, bool-ext, and-left, and-right}
 use Rattle.lists.proofs.Members.{all-at, all-cong, map-cong, filter-cong, filter-out, range-in, range-out, below-at}
-use Rattle.lists.proofs.Nodup.{length-range}
 use Rattle.asp.specs.Program.{Body, Rule, Program, bodyBelow, ruleBelow, wellFormed}
 use Rattle.unfolding.specs.Graph.{sameComponent, component}
 use Rattle.unfolding.specs.Unfolded.{Copy, last, copied, usable, replaced, renamed, isKept, keptFor}
@@ -21,9 +20,11 @@ use Rattle.program.specs.inner.Held.{bodyOf, ruleOf, rulesAt, programIn}
 use Rattle.program.specs.declared.ProgramTable.{ProgramTable}
 use Rattle.copies.specs.inner.Bodies.{bodyBy, entryBody, bodiesBy, atomCount}
 use Rattle.copies.specs.inner.Made.{componentSet}
-use Rattle.copies.specs.inner.Kept.{keeps, keptEntries, Kept}
+use Rattle.copies.specs.inner.Kept.{keeps, keptEntries, Kept, SizesOf, KeptCounted}
 use Rattle.copies.specs.inner.Ready.{Ready}
+use Rattle.copies.specs.declared.KeptNumbers.{KeptNumbers}
 use Rattle.copies.specs.declared.KeptRules.{KeptRules}
+use Rattle.copies.proofs.Keeping.{sum-atoms}
 
 filter-map : {A B : Type 0} (p : B → Bool) (f : A → B) (l : List A) → filter p (map f l) ≡ map f (filter (λ x. p (f x)) l)
 unfolding filter
@@ -100,16 +101,22 @@ module _ (t : ProgramTable) (names sets q : List ℕ) (R : Ready t names sets q)
         (filter-cong (λ i. isKept P past a (rule i)) (λ i. keeps a (componentSet names sets a) copied-set (getD (t .heads) i 0) (getD (t .pos) i 0)) (range 0 (t .rules))
         (λ i m. let r = range-out 0 (t .rules) i m .high in same-test i (omega arith))))
 
-    module _ (r : KeptRules) (K : Kept (t .heads) (t .pos) (t .neg) (t .rules) a (componentSet names sets a) copied-set r) where
+    -- An entry that is kept is one of a rule.
+    entry-low : (i : ℕ) → List·Memᴰ i entries → i < t .rules
+    unfolding keptEntries
+    entry-low i m =
+        let f = filter-out (λ i. keeps a (componentSet names sets a) copied-set (getD (t .heads) i 0) (getD (t .pos) i 0)) (range 0 (t .rules)) i m .0 in
+        let x = range-out 0 (t .rules) i f .high in
+        omega arith
+
+    module _ (sizes : List ℕ) (S : SizesOf (t .pos) (t .neg) (t .rules) sizes) (r : KeptNumbers) (N : KeptCounted (t .heads) (t .pos) sizes (t .rules) a (componentSet names sets a) copied-set r) where
       pub kept-number : length (keptFor P past a) ≡ r .rules
-      kept-number =
-          ap length kept-are
-          ∙ (length-map entries (λ i. renamed (replaced P past a) (body i))
-          ∙ (ap length (sym (K .entries)) ∙ (length-map (range 0 (r .rules)) (λ j. getD (r .entries) j 0) ∙ length-range 0 (r .rules))))
+      kept-number = ap length kept-are ∙ (length-map entries (λ i. renamed (replaced P past a) (body i)) ∙ sym (N .number))
 
       pub kept-atoms : atomCount (keptFor P past a) ≡ r .atoms
-      kept-atoms = ap atomCount kept-are ∙ (atoms-renamed (replaced P past a) body entries ∙ sym (K .atoms))
+      kept-atoms = ap atomCount kept-are ∙ (atoms-renamed (replaced P past a) body entries ∙ sym (N .sum ∙ sum-atoms (t .pos) (t .neg) (t .rules) sizes S entries entry-low))
 
+    module _ (r : KeptRules) (K : Kept (t .heads) (t .pos) (t .rules) a (componentSet names sets a) copied-set r) where
       pub kept-bodies : (vars : List ℕ) → ((b : ℕ) → b < t .atoms → getD vars b 0 ≡ replaced P past a b) → keptFor P past a ≡ bodiesBy (t .pos) (t .neg) vars (r .entries) (r .rules)
       unfolding bodiesBy keptEntries entryBody bodyBy renamed bodyOf
       kept-bodies vars h =
@@ -119,7 +126,6 @@ module _ (t : ProgramTable) (names sets q : List ℕ) (R : Ready t names sets q)
         where
           each : (i : ℕ) → List·Memᴰ i entries → renamed (replaced P past a) (body i) ≡ entryBody (t .pos) (t .neg) vars i
           each i m =
-              let f = filter-out (λ i. keeps a (componentSet names sets a) copied-set (getD (t .heads) i 0) (getD (t .pos) i 0)) (range 0 (t .rules)) i m .0 in
-              let l : i < t .rules = let x = range-out 0 (t .rules) i f .high in omega arith in
+              let l = entry-low i m in
               ap (λ ps. record { pos = ps; neg = map last (listed (getD (t .neg) i 0)) })
               (map-cong (replaced P past a) (λ b. getD vars b 0) (listed (getD (t .pos) i 0)) (λ b k. sym (h b (below-at (t .atoms) (listed (getD (t .pos) i 0)) (rule-low i l) b k))))

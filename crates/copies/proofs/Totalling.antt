@@ -11,10 +11,10 @@ use Rattle.program.specs.inner.Held.{programIn}
 use Rattle.program.specs.declared.ProgramTable.{ProgramTable}
 use Rattle.copies.specs.inner.Bodies.{atomCount, atomsAt}
 use Rattle.copies.specs.inner.Made.{componentSet}
-use Rattle.copies.specs.inner.Kept.{Kept}
+use Rattle.copies.specs.inner.Kept.{SizesOf, KeptCounted}
 use Rattle.copies.specs.inner.Ready.{Ready, unfoldedIn}
 use Rattle.copies.specs.inner.Totals.{keptBodies, KeptTotals, TotalsOf}
-use Rattle.copies.specs.declared.KeptRules.{KeptRules}
+use Rattle.copies.specs.declared.KeptNumbers.{KeptNumbers}
 use Rattle.copies.specs.declared.Totals.{Totals}
 use Rattle.copies.proofs.Keeping.{atoms-append}
 use Rattle.copies.proofs.Selecting.{name-low, kept-number, kept-atoms}
@@ -44,13 +44,14 @@ module _ (t : ProgramTable) (names sets q : List ℕ) (R : Ready t names sets q)
       pub totalling-name : getD names a 0 < 64
       totalling-name = name-low t names sets q R a a-low
 
-      module _ (component : ℕ) (C : component ≡ componentSet names sets a) (r : KeptRules) (K : Kept (t .heads) (t .pos) (t .neg) (t .rules) a component copied r) where
+      module _ (component : ℕ) (C : component ≡ componentSet names sets a) (sizes : List ℕ) (S : SizesOf (t .pos) (t .neg) (t .rules) sizes)
+          (r : KeptNumbers) (K : KeptCounted (t .heads) (t .pos) sizes (t .rules) a component copied r) where
         abbrev kept : List Body
         kept = keptFor (programIn t) (L .past) (getD q i 0)
 
-        K′ : Kept (t .heads) (t .pos) (t .neg) (t .rules) (getD q i 0) (componentSet names sets (getD q i 0)) copied r
-        K′ = subst (λ x. Kept (t .heads) (t .pos) (t .neg) (t .rules) x (componentSet names sets x) copied r) (A .is)
-            (subst (λ x. Kept (t .heads) (t .pos) (t .neg) (t .rules) a x copied r) C K)
+        K′ : KeptCounted (t .heads) (t .pos) sizes (t .rules) (getD q i 0) (componentSet names sets (getD q i 0)) copied r
+        K′ = subst (λ x. KeptCounted (t .heads) (t .pos) sizes (t .rules) x (componentSet names sets x) copied r) (A .is)
+            (subst (λ x. KeptCounted (t .heads) (t .pos) sizes (t .rules) a x copied r) C K)
 
         low : getD q i 0 < t .atoms
         low = entry-atom t names sets q R i (L .from) within
@@ -63,8 +64,8 @@ module _ (t : ProgramTable) (names sets q : List ℕ) (R : Ready t names sets q)
             let v = T .atoms-left in
             let f = length-append kept (keptBodies cs) in
             let g = atoms-append kept (keptBodies cs) in
-            let h = kept-number t names sets q R (L .past) copied (L .marks) (getD q i 0) low r K′ in
-            let k = kept-atoms t names sets q R (L .past) copied (L .marks) (getD q i 0) low r K′ in
+            let h = kept-number t names sets q R (L .past) copied (L .marks) (getD q i 0) low sizes S r K′ in
+            let k = kept-atoms t names sets q R (L .past) copied (L .marks) (getD q i 0) low sizes S r K′ in
             record { rules-left = omega arith; atoms-left = omega arith }
 
         sums : (cs : List Copy) → TotalsLeft (unfoldedIn t q .copies) (rules + r .rules) (atoms + r .atoms) 0 [] cs → (rules + r .rules ≤ 81920) × (atoms + r .atoms ≤ 10485760)

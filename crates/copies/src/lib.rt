@@ -18,7 +18,7 @@ ghost use Rattle.sheet.specs.Sequence.{entries};
 ghost use Rattle.copies.specs.inner.Tables.{Values, Overlaid};
 ghost use Rattle.copies.specs.inner.Bodies.{bodyAtoms, atomsAt};
 ghost use Rattle.copies.specs.inner.Made.{EntryAt, LastPlaces, componentSet, Made};
-ghost use Rattle.copies.specs.inner.Kept.{keeps, Inside, ListedAt, Kept};
+ghost use Rattle.copies.specs.inner.Kept.{keeps, Inside, ListedAt, Kept, SmallSizes, SizesOf, KeptCounted};
 ghost use Rattle.copies.specs.inner.Ready.{Ready, unfoldedIn};
 ghost use Rattle.copies.specs.inner.Totals.{KeptTotals, TotalsOf};
 
@@ -145,33 +145,21 @@ fn body_atoms(pos: u64, neg: u64) -> usize
     size(pos) as usize + size(neg) as usize
 }
 
-// The number, with the atoms of a body where b holds.
-fn with_body(b: bool, x: usize, pos: u64, neg: u64) -> usize
-    requires { ⌜ x < 4294967296 ⌝ }
-    ensures { λ r. ⌜ r ≡ cond b (x + bodyAtoms pos neg) x ⌝ }
+// The number x, with k where b holds.
+fn add_if(b: bool, x: usize, k: usize) -> usize
+    requires { ⌜ x + k < 4294967296 ⌝ }
+    ensures { λ r. ⌜ r ≡ cond b (x + k) x ⌝ }
 {
     if b {
-        return x + body_atoms(pos, neg);
+        return x + k;
     }
     x
 }
 
-// The number, or the next one where b holds.
-fn next_if(b: bool, x: usize) -> usize
-    requires { ⌜ x < 4294967296 ⌝ }
-    ensures { λ r. ⌜ r ≡ cond b (x + 1) x ⌝ }
-{
-    if b {
-        return x + 1;
-    }
-    x
-}
-
-// The rules kept for a copy, by their entries in the table: how many there are, and how many atoms their bodies have.
+// The rules kept for a copy, by their entries in the table, and how many there are.
 pub struct KeptRules {
     pub entries: [u8; 128],
     pub rules: usize,
-    pub atoms: usize,
 }
 
 // The j-th of k entries that are listed.
@@ -186,31 +174,77 @@ pub fn entry_at(entries: &[u8; 128], k: usize, j: usize) -> usize
 pub fn kept_rules<'a>(
     heads: &'a [u8; 128],
     pos: &'a [u64; 128],
-    neg: &'a [u64; 128],
     rules: usize,
     a: usize,
     component: u64,
     copied: u64,
 ) -> KeptRules
     requires { ⌜ rules ≤ 128 ⌝ }
-    ensures { λ r. ⌜ Kept (now (heads .entry)) (now (pos .entry)) (now (neg .entry)) rules a component copied r ⌝ }
+    ensures { λ r. ⌜ Kept (now (heads .entry)) (now (pos .entry)) rules a component copied r ⌝ }
 {
     let mut entries = [0u8; 128];
     let mut kept = 0;
-    let mut atoms = 0;
     let mut j = 0;
     while j < rules {
         let keep = is_kept(heads[j], pos[j], a, component, copied);
         entries[kept] = j as u8;
-        kept = next_if(keep, kept);
-        atoms = with_body(keep, atoms, pos[j], neg[j]);
+        kept = add_if(keep, kept, 1);
         j += 1;
     }
     KeptRules {
         entries,
         rules: kept,
-        atoms,
     }
+}
+
+// For each entry how many atoms its body has.
+pub struct BodySizes {
+    pub sizes: [u8; 128],
+}
+
+// The sizes of the first so many bodies.
+fn body_sizes<'a>(pos: &'a [u64; 128], neg: &'a [u64; 128], rules: usize) -> BodySizes
+    requires { ⌜ rules ≤ 128 ⌝ }
+    ensures { λ r. ⌜ SizesOf (now (pos .entry)) (now (neg .entry)) rules (r .sizes) ⌝ }
+{
+    let mut sizes = [0u8; 128];
+    let mut j = 0;
+    while j < rules {
+        sizes[j] = body_atoms(pos[j], neg[j]) as u8;
+        j += 1;
+    }
+    BodySizes { sizes }
+}
+
+// How many rules are kept for a copy, and how many atoms their bodies have.
+pub struct KeptNumbers {
+    pub rules: usize,
+    pub atoms: usize,
+}
+
+// The numbers for a copy of a, of the first so many entries.
+fn kept_numbers<'a>(
+    heads: &'a [u8; 128],
+    pos: &'a [u64; 128],
+    sizes: &'a [u8; 128],
+    rules: usize,
+    a: usize,
+    component: u64,
+    copied: u64,
+) -> KeptNumbers
+    requires { ⌜ (rules ≤ 128) × SmallSizes (now sizes) ⌝ }
+    ensures { λ r. ⌜ KeptCounted (now (heads .entry)) (now (pos .entry)) (now (sizes .entry)) rules a component copied r ⌝ }
+{
+    let mut kept = 0;
+    let mut atoms = 0;
+    let mut j = 0;
+    while j < rules {
+        let keep = is_kept(heads[j], pos[j], a, component, copied);
+        kept = add_if(keep, kept, 1);
+        atoms = add_if(keep, atoms, wide(sizes[j]));
+        j += 1;
+    }
+    KeptNumbers { rules: kept, atoms }
 }
 
 // How many rules the copies keep, and how many atoms their bodies have; the same of the constraints.
@@ -227,6 +261,8 @@ fn kept_totals(t: ProgramTable, q: &[u8], names: &[u8; 64], sets: &[u64; 64]) ->
     ensures { λ r. ⌜ KeptTotals (unfoldedIn t (now (q .entry))) r ⌝ }
 {
     let count = t.rules;
+    let table = body_sizes(&t.pos, &t.neg, count);
+    let sizes = table.sizes;
     let mut copied: u64 = 0;
     let mut rules = 0;
     let mut atoms = 0;
@@ -234,7 +270,7 @@ fn kept_totals(t: ProgramTable, q: &[u8], names: &[u8; 64], sets: &[u64; 64]) ->
     while i < q.len() {
         let a = byte_at(q, i);
         let component = component_of(names, sets, a);
-        let kept = kept_rules(&t.heads, &t.pos, &t.neg, count, a, component, copied);
+        let kept = kept_numbers(&t.heads, &t.pos, &sizes, count, a, component, copied);
         rules += kept.rules;
         atoms += kept.atoms;
         copied = with(copied, a);

@@ -16,92 +16,112 @@ use Rattle.unfolding.specs.Default.{members}
 use Rattle.bits.specs.inner.Visited.{listed}
 use Rattle.program.specs.declared.ProgramTable.{ProgramTable}
 use Rattle.program.specs.inner.Held.{programIn, Readable}
-use Rattle.program.proofs.Entries.{program-atoms}
+use Rattle.program.proofs.Entries.{head-below, program-atoms}
 use Rattle.sheet.specs.Questions.{ask, _then_}
 use Rattle.sheet.specs.Format.{atomsByte}
 use Rattle.sheet.specs.inner.Walk.{formQuestions}
-use Rattle.sheet.specs.Sheet.{records, programOf, program}
+use Rattle.sheet.specs.Sheet.{recordsFrom, records, programOf, program}
 use Rattle.sheet.specs.Sequence.{entries, sequenceFits}
 use Rattle.sheet.specs.declared.Limits.{Limits}
 use Rattle.sheet.proofs.Records.{ask-no, ask-yes, then-refused, then-zero}
 use Rattle.sheet.proofs.Sequences.{fits-out}
-use Rattle.sheet.proofs.Walk.{Formed, formed, program-formed, asked-yes}
-use Rattle.reader.specs.declared.RecordTable.{RecordTable}
-use Rattle.reader.specs.inner.Tabled.{SheetRead}
+use Rattle.sheet.proofs.Walk.{formed, program-formed, asked-yes}
+use Rattle.reader.specs.declared.Header.{Header}
+use Rattle.reader.specs.inner.Tabled.{recordsAt, HeaderRead, RecordsRead}
 use Rattle.translation.specs.inner.Translated.{Translated}
 use Rattle.components.specs.declared.Components.{Components}
 use Rattle.components.specs.Limit.{componentsFit}
-use Rattle.components.specs.inner.Reachability.{NamesOf, SetsOf, named, SetsFit, ComponentsOf}
+use Rattle.components.specs.inner.Reachability.{HeadsLow, NamesOf, SetsOf, named, namesFit, SetsFit, ComponentsOf, GraphOf}
 use Rattle.components.proofs.Naming.{sets-named}
 use Rattle.components.proofs.Graphs.{fits-same, named-members}
 use Rattle.chains.specs.inner.Subsets.{Graph, Small, PassesBy}
 use Rattle.core.specs.Questions.{question9, readQuestions, testQuestions}
 use Rattle.core.specs.inner.Asked.{Supported, SheetAccepted, SheetAsked, SequenceAsked, BothAsked}
 use Rattle.core.specs.declared.Asked.{Asked}
-use Rattle.core.proofs.Chains.{read-asked, test-asked}
+use Rattle.core.proofs.Chains.{read-asked, read-passed, test-asked}
 
 -- The sheet.
-module _ (L : Limits) (s : List ℕ) (S : Supported L) (t : RecordTable) (T : SheetRead L s t) where
-  pub asked-form : (r : Asked) → (t .refusal ≡ 0 → ⊥) → r .refusal ≡ t .refusal → SheetAsked L s r
-  asked-form r ne e =
+module _ (L : Limits) (s : List ℕ) (S : Supported L) (h : Header) (H : HeaderRead L s h) where
+  refused-by : (r : Asked) (q : ℕ) → q ≡ formQuestions L s → (q ≡ 0 → ⊥) → r .refusal ≡ q → SheetAsked L s r
+  refused-by r q f ne e =
       record {
-        says = e ∙ (T .says ∙ sym (read-asked L s ∙ then-refused (formQuestions L s) _ (λ z. ne (T .says ∙ z))));
+        says = e ∙ (f ∙ sym (read-asked L s ∙ then-refused (formQuestions L s) _ (λ z. ne (f ∙ z))));
         accepted = λ z. absurd (ne (sym e ∙ z));
       }
 
-  module _ (z : t .refusal ≡ 0) where
-    form : Formed L s
-    form = formed L s (sym (T .says) ∙ z)
+  pub asked-header : (r : Asked) → (h .refusal ≡ 0 → ⊥) → r .refusal ≡ h .refusal → SheetAsked L s r
+  asked-header r ne e = refused-by r (h .refusal) (H .refused ne) ne e
 
-    pub asked-count : t .count ≤ 128
-    asked-count = let c = T .table z .count in let m = form .count in let k = S .records in omega arith
+  module _ (z : h .refusal ≡ 0) where
+    pub asked-long : 5 ≤ length s
+    asked-long = H .passed z .long
 
-    module _ (p : ProgramTable) (K : Translated t p) where
-      same-program : programIn p ≡ program s
-      unfolding program
-      same-program = K .is ∙ ap₂ programOf (T .table z .atoms) (T .table z .records)
+    pub asked-atoms : h .atoms ≤ 64
+    asked-atoms = let l = H .passed z .low in let k = S .atoms in omega arith
 
-      pub asked-readable : Readable p
-      asked-readable =
-          let a = K .atoms in
-          let b = T .table z .atoms in
-          let l = form .atoms in
-          let k = S .atoms in
-          record { atoms = omega arith; few = K .few; formed = subst (λ P. wellFormed P ≡ true) (sym same-program) (program-formed L s (sym (T .says) ∙ z)) }
+    pub asked-count : h .records ≤ 128
+    asked-count = let l = H .passed z .few in let k = S .records in omega arith
 
-      pub asked-low : p .atoms ≤ 64
-      asked-low = asked-readable .atoms
+    module _ (ks hs ps ns : List ℕ) (q : ℕ) (Q : RecordsRead (h .atoms) (h .records) s ks hs ps ns q) where
+      read-by : q ≡ formQuestions L s
+      read-by = Q .says ∙ sym (H .passed z .rest)
 
-      module _ (c : Components) (C : ComponentsOf (programIn p) c) (b : Bool) (F : SetsFit (L .component) (p .atoms) (c .sets) b) where
-        seventh : readQuestions L s ≡ ask b 7
-        seventh =
-            read-asked L s
-            ∙ (then-zero (formQuestions L s) _ (sym (T .says) ∙ z)
-            ∙ ap (λ b. ask b 7) (ap (componentsFit (L .component)) (sym same-program)
-            ∙ sym (F .is (c .names) (subst (λ n. SetsOf (c .names) n (c .sets)) (program-atoms p) (C .grouped))
-            ∙ (subst (λ n. namesFit₀ n ≡ componentsFit (L .component) (programIn p)) (program-atoms p) (fits-same (programIn p) (c .names) (C .named) (L .component))))))
-          where
-            namesFit₀ : ℕ → Bool
-            namesFit₀ n = Rattle.components.specs.inner.Reachability.namesFit (L .component) (c .names) n
+      pub asked-records : (r : Asked) → (q ≡ 0 → ⊥) → r .refusal ≡ q → SheetAsked L s r
+      asked-records r ne e = refused-by r q read-by ne e
 
-        pub asked-wide : (r : Asked) → b ≡ false → r .refusal ≡ 7 → SheetAsked L s r
-        unfolding ask
-        asked-wide r f e = record { says = e ∙ sym (seventh ∙ rw f refl); accepted = λ y. absurd (let w = sym e ∙ y in omega arith) }
+      module _ (y : q ≡ 0) (p : ProgramTable) (K : Translated (h .atoms) (recordsAt ks hs ps ns 0 (h .records)) p) where
+        passed : formQuestions L s ≡ 0
+        passed = sym read-by ∙ y
 
-        pub asked-fine : b ≡ true → SheetAsked L s (record { refusal = 0; records = t .count; program = p; components = c })
-        unfolding ask
-        asked-fine y =
-            record {
-              says = sym (seventh ∙ rw y refl);
-              accepted = λ _. record {
-                form = sym (T .says) ∙ z;
-                number = T .table z .count;
-                readable = asked-readable;
-                held = same-program;
-                graph = subst (λ P. ComponentsOf P c) same-program C;
-                limit = Rattle.core.proofs.Chains.read-passed L s (seventh ∙ rw y refl) .components;
-              };
-            }
+        same-program : programIn p ≡ program s
+        unfolding program records
+        same-program = K .is ∙ ap₂ programOf (H .passed z .atoms) (Q .stored y ∙ ap (λ m. recordsFrom m s 5) (H .passed z .records))
+
+        asked-readable : Readable p
+        asked-readable =
+            let a = K .atoms in
+            let l = asked-atoms in
+            record { atoms = omega arith; few = K .few; formed = subst (λ P. wellFormed P ≡ true) (sym same-program) (program-formed L s passed) }
+
+        pub asked-few : p .rules ≤ 128
+        asked-few = let f = K .few in omega arith
+
+        pub asked-heads : HeadsLow (p .rules) (p .heads)
+        asked-heads = record { low = λ j l. let b = head-below p asked-readable j l in let a = asked-readable .atoms in omega arith }
+
+        module _ (c : Components) (G : GraphOf (h .atoms) (p .rules) (p .heads) (p .pos) c) (b : Bool) (F : SetsFit (L .component) (h .atoms) (c .sets) b) where
+          C : ComponentsOf (programIn p) c
+          C = G .is p asked-readable (K .atoms) refl refl refl
+
+          grouped : SetsOf (c .names) (h .atoms) (c .sets)
+          grouped = subst (λ n. SetsOf (c .names) n (c .sets)) (program-atoms p ∙ K .atoms) (C .grouped)
+
+          seventh : readQuestions L s ≡ ask b 7
+          seventh =
+              read-asked L s
+              ∙ (then-zero (formQuestions L s) _ passed
+              ∙ ap (λ b. ask b 7) (ap (componentsFit (L .component)) (sym same-program)
+              ∙ sym (F .is (c .names) grouped
+              ∙ (subst (λ n. namesFit (L .component) (c .names) n ≡ componentsFit (L .component) (programIn p)) (program-atoms p ∙ K .atoms) (fits-same (programIn p) (c .names) (C .named) (L .component))))))
+
+          pub asked-wide : (r : Asked) → b ≡ false → r .refusal ≡ 7 → SheetAsked L s r
+          unfolding ask
+          asked-wide r f e = record { says = e ∙ sym (seventh ∙ rw f refl); accepted = λ y. absurd (let w = sym e ∙ y in omega arith) }
+
+          pub asked-fine : b ≡ true → SheetAsked L s (record { refusal = 0; records = h .records; program = p; components = c })
+          unfolding ask
+          asked-fine t =
+              record {
+                says = sym (seventh ∙ rw t refl);
+                accepted = λ _. record {
+                  form = passed;
+                  number = H .passed z .records;
+                  readable = asked-readable;
+                  held = same-program;
+                  graph = subst (λ P. ComponentsOf P c) same-program C;
+                  limit = read-passed L s (seventh ∙ rw t refl) .components;
+                };
+              }
 
 -- A sheet that is accepted.
 module _ (L : Limits) (s : List ℕ) (r : Asked) (A : SheetAccepted L s r) where

@@ -15,7 +15,7 @@ use Rattle.components.specs.Limit.{componentsFit}
 use Rattle.core.specs.Questions.{question7, question8, question9, readQuestions, testQuestions}
 
 -- The first no of three, asked in any grouping.
-then-assoc : (a b c : ℕ) → (a then b) then c ≡ a then (b then c)
+pub then-assoc : (a b c : ℕ) → (a then b) then c ≡ a then (b then c)
 unfolding _then_
 then-assoc a b c = by-bool (eqb a 0) (λ t. rw t refl) (λ f. rw f (rw f refl))
 

@@ -1,7 +1,7 @@
 -- What the default sequence writes is accepted by questions 8 and 9.
 use mathlib.Core.Bool.{true}
 use mathlib.Core.List.{List}
-use mathlib.Core.Path.{_≡_, refl, _∙_}
+use mathlib.Core.Path.{_≡_, refl, sym, _∙_}
 use Prim.Native.Nat.{ℕ, _+_, _*_, _/_, _%_, _≤_, _<_}
 use native.Mathlib.Nat.{mul-le-mul-left}
 use native.Mathlib.Omega.{arith}
@@ -25,8 +25,11 @@ use Rattle.sheet.proofs.Walk.{formed, program-formed}
 use Rattle.components.specs.Limit.{componentsFit}
 use Rattle.core.specs.Outputs.{sequenceBytes, defaultOutput}
 use Rattle.core.specs.Questions.{question9, readQuestions}
+use Rattle.core.specs.Calls.{sheetAsked, questions}
+use Rattle.core.specs.Calls as call
 use Rattle.core.specs.Demands.{DefaultAccepted}
 use Rattle.core.proofs.Chains.{Passed, read-passed, test-asked}
+use Rattle.core.proofs.Calls.{first-yes, yes-first, sheet-first, test-first}
 
 module _ (L : Limits) (s : List ℕ) (accepted : readQuestions L s ≡ 0) where
   passed : Passed L s
@@ -64,7 +67,10 @@ module _ (L : Limits) (s : List ℕ) (accepted : readQuestions L s ≡ 0) where
 
 pub default-accepted : (L : Limits) → L .component * L .atoms ≤ L .entries → L .entries < 65536 → DefaultAccepted L
 unfolding ask
-default-accepted L enough two-bytes s accepted =
-    test-asked L s (defaultOutput s)
+default-accepted L enough two-bytes s yeses =
+    let accepted = sym (sheet-first L s) ∙ yes-first (sheetAsked L s) yeses in
+    first-yes (questions L (call.test s (defaultOutput s)))
+    (test-first L s (defaultOutput s)
+    ∙ (test-asked L s (defaultOutput s)
     ∙ (then-zero (readQuestions L s) _ accepted
-    ∙ (ask-yes (eighth L s accepted enough two-bytes) 8 (question9 s (defaultOutput s)) ∙ rw (ninth L s accepted enough two-bytes) refl))
+    ∙ (ask-yes (eighth L s accepted enough two-bytes) 8 (question9 s (defaultOutput s)) ∙ rw (ninth L s accepted enough two-bytes) refl))))

@@ -1,103 +1,206 @@
--- Demand 3 of the operations.
+-- Demands 2 and 3 of every service that meets demand 1.
+use mathlib.Core.Bool.{true}
 use mathlib.Core.List.{List, [], _∷_, _++_}
-use mathlib.Core.Path.{_≡_, refl, sym, _∙_, ap, subst}
-use Prim.Native.Nat.{ℕ, _≤_}
+use mathlib.Core.Path.{_≡_, refl, sym, _∙_, ap, ap₂, subst}
+use Prim.Native.Nat.{ℕ}
 use native.Mathlib.Omega.{arith}
+use lib.Dec.{leb}
 use lib.IntN.{ℤ}
-use lib.ListN.{length, length-append, take, drop}
+use lib.ListN.{length, take, drop}
 use lib.Seq.{take-append-seam}
+use Rattle.lists.proofs.Bools.{by-bool}
+use Rattle.asp.specs.Program.{wellFormed}
+use Rattle.asp.specs.Count.{stableModels, verdict}
+use Rattle.asp.proofs.Claims.{stable-is-answer-set, stable-are-listed, count-is-answer-sets}
 use Rattle.unfolding.specs.Chain.{passes}
-use Rattle.unfolding.specs.Unfolded.{NoPositiveLoop, unfolded, words}
-use Rattle.unfolding.specs.Decoded.{readUnfolded, nameless}
+use Rattle.unfolding.specs.Unfolded.{NoPositiveLoop}
+use Rattle.unfolding.specs.Decoded.{readUnfolded}
 use Rattle.unfolding.specs.Clauses.{readWords}
-use Rattle.unfolding.specs.Faithful.{clausesOf}
-use Rattle.unfolding.specs.Claims.{Accepted}
+use Rattle.unfolding.specs.Faithful.{clausesOf, variablesOf}
+use Rattle.unfolding.specs.Claims as claims
 use Rattle.unfolding.proofs.Chains.{passes-iff}
-use Rattle.unfolding.proofs.Claims.{clauses-are-faithful, words-are-clauses, words-are-unfolded, words-have-no-loop}
-use Rattle.sheet.specs.Questions.{_then_}
-use Rattle.sheet.specs.Format.{atomsByte}
-use Rattle.sheet.specs.Sequence.{entries, sequenceFits}
-use Rattle.sheet.specs.Sheet.{programOf, program}
+use Rattle.unfolding.proofs.Claims.{clauses-are-faithful, literals-are-numbered, words-are-clauses, words-are-unfolded, words-have-no-loop}
+use Rattle.sheet.specs.Questions.{ask, _then_}
+use Rattle.sheet.specs.Sequence.{entries}
+use Rattle.sheet.specs.Sheet.{program}
 use Rattle.sheet.specs.declared.Limits.{Limits}
-use Rattle.sheet.proofs.Sequences.{fits-out}
-use Rattle.sheet.proofs.Walk.{asked-yes, ask-passed, then-passed}
-use Rattle.core.specs.Outcome.{Outcome, answered, outcome, fromWrite, fromClauses, Emits}
+use Rattle.sheet.proofs.Records.{then-zero, ask-yes}
+use Rattle.sheet.proofs.Walk.{then-passed}
+use Rattle.core.specs.Outcome.{Outcome, refused, answered, code}
 use Rattle.core.specs.Outputs.{unfoldedOutput, clausesOutput, clauseNumbers}
-use Rattle.core.specs.Questions.{question8, question9, readQuestions, testQuestions, clausesQuestions}
-use Rattle.core.specs.Promises.{unfoldedOutcome, UnfoldedPromise, clausesOutcome, ClausesPromise}
-use Rattle.core.specs.Demands.{Demand3}
-use Rattle.core.specs.declared.ClausesAnswer.{ClausesAnswer}
-use Rattle.core.specs.declared.ClausesAnswer.the-variants as written
-use Rattle.core.specs.declared.WriteAnswer.{WriteAnswer}
-use Rattle.core.proofs.Chains.{test-asked}
-use Rattle.core.proofs.Outcomes.{answered-passed, filled-answered}
-use Rattle.core.proofs.Testing.{program-accepted}
+use Rattle.core.specs.Questions.{question8, question9, question10}
+use Rattle.core.specs.Calls.{Call, Buffer, unsigned, signed, over, sheetAsked, questions, AllYes, values, written, Service, Promised}
+use Rattle.core.specs.Calls as call
+use Rattle.core.specs.Demands.{Decided, refuses, answers, Demand1, AnswerSetsCounted, UnfoldedWords, ClauseWords, Demand2}
+use Rattle.core.specs.Demands.{Accepted, AsFarAsChains, Numbered, NineIsChains, Demand3}
+use Rattle.core.proofs.Calls.{first, first-append, first-yes, yes-first, no-first, sheet-first, demand-1}
+use Rattle.core.proofs.Testing.{program-accepted, both-accepted}
 
--- What testing accepts is a well-formed program and a sequence of its atoms that has every chain.
-test-accepted : (L : Limits) (s q : List ℕ) → testQuestions L s q ≡ 0 → Accepted (program s) (entries q)
-unfolding program programOf
-test-accepted L s q z =
-    let a = then-passed (readQuestions L s) (question8 L s q then question9 s q) (sym (test-asked L s q) ∙ z) in
-    let b = asked-yes (sequenceFits L (atomsByte s) q) 8 (question9 s q) (λ e. omega arith) (a .1) in
-    let wf = program-accepted L s (a .0) in
+-- A call that is answered: every question is answered by a yes, these are its values, and the buffer holds the output.
+pub record Succeeded (L : Limits) (c : Call) (vs : List ℕ) (b : Buffer) : Type 0 where
+  pub yeses : AllYes (questions L c)
+  pub same : vs ≡ values c
+  pub holds : b ≡ written c
+
+decided-answered : (L : Limits) (c : Call) (vs : List ℕ) (b : Buffer) → Decided L c (answered vs) b → Succeeded L c vs b
+decided-answered L c vs b (refuses k F e m) = let z : _≡_ {A = ℕ} 0 1 = cc e in absurd (omega arith)
+decided-answered L c vs b (answers y e m) = record { yeses = y; same = cc e; holds = m }
+
+-- A call whose first no is k is refused so, and by no other number.
+decided-refused : (L : Limits) (c : Call) (o : Outcome) (b : Buffer) (k : ℕ) → Decided L c o b → first (questions L c) ≡ k → (k ≡ 0 → ⊥) → o ≡ refused k
+decided-refused L c o b k (refuses j F e m) f ne = e ∙ ap refused (sym (no-first (questions L c) j F) ∙ f)
+decided-refused L c o b k (answers y e m) f ne = absurd (ne (sym f ∙ yes-first (questions L c) y))
+
+decided-number : (L : Limits) (c : Call) (b : Buffer) (k : ℕ) → Decided L c (refused k) b → first (questions L c) ≡ k
+decided-number L c b k (refuses j F e m) = no-first (questions L c) j F ∙ cc (sym e)
+decided-number L c b k (answers y e m) = let z : _≡_ {A = ℕ} 0 1 = cc e in absurd (omega arith)
+
+-- Questions about the sheet come first.
+module _ (L : Limits) (s more : List ℕ) (y : AllYes (sheetAsked L s ++ more)) where
+  parted : (first (sheetAsked L s) ≡ 0) × (first more ≡ 0)
+  parted = then-passed (first (sheetAsked L s)) (first more) (sym (first-append (sheetAsked L s) more) ∙ yes-first (sheetAsked L s ++ more) y)
+
+  formed : wellFormed (program s) ≡ true
+  formed = program-accepted L s (sym (sheet-first L s) ∙ parted .0)
+
+-- Where the chain question gets a yes, whatever is asked behind it, testing accepts: a well-formed program and a sequence of its atoms that has every chain.
+module _ (L : Limits) (s q rest : List ℕ) (y : AllYes (sheetAsked L s ++ (question8 L s q ∷ question9 s q ∷ rest))) where
+  eighth : (question8 L s q ≡ 0) × (question9 s q then first rest ≡ 0)
+  unfolding first
+  eighth = then-passed (question8 L s q) (question9 s q then first rest) (parted L s _ y .1)
+
+  ninth : question9 s q ≡ 0
+  ninth = then-passed (question9 s q) (first rest) (eighth .1) .0
+
+  test-accepts : Accepted L s q
+  unfolding first questions
+  test-accepts =
+      first-yes (questions L (call.test s q))
+      (first-append (sheetAsked L s) (question8 L s q ∷ question9 s q ∷ [])
+      ∙ (then-zero (first (sheetAsked L s)) _ (parted L s _ y .0) ∙ (then-zero (question8 L s q) _ (eighth .0) ∙ then-zero (question9 s q) 0 ninth)))
+
+  accepted-both : claims.Accepted (program s) (entries q)
+  accepted-both = both-accepted L s q (sym (sheet-first L s) ∙ parted L s _ y .0) (eighth .0) ninth
+
+-- Counting.
+counted-exact : (L : Limits) (s counted : List ℕ) (b : Buffer) → Succeeded L (call.count s) counted b → AnswerSetsCounted (program s) counted
+unfolding questions values
+counted-exact L s counted b K =
+    let wf = formed L s _ (K .yeses) in
+    let listed = stable-are-listed (program s) wf in
+    let same = stable-is-answer-set (program s) wf in
     record {
-      program = wf;
-      entries = fits-out L (atomsByte s) q (b .0) .low;
-      found = passes-iff (program s) wf (entries q) .0 (ask-passed (passes (program s) (entries q)) 9 (λ e. omega arith) (b .1));
+      list = stableModels (program s);
+      listed = record {
+        distinct = listed .distinct;
+        sound = λ X m. same X .0 (listed .sound X m);
+        complete = λ X A. listed .complete X (same X .1 A);
+      };
+      exact = λ l E. K .same ∙ ap (λ k. k ∷ code (verdict k) ∷ []) (sym (count-is-answer-sets (program s) wf l E));
     }
 
--- Where an output is answered the questions have passed, and the output stands at the buffer's beginning.
-module _ {A : Type 0} (refusal : ℕ) (values : List ℕ) (output old new : List A) (r : Outcome) (vs : List ℕ)
-    (E : Emits (outcome refusal values) output old new r) (e : r ≡ answered vs) where
-  emitted-passed : refusal ≡ 0
-  emitted-passed = answered-passed refusal values vs (sym (E .says) ∙ e)
+-- The output is the beginning of the buffer.
+over-front : {A : Type 0} (output old new : List A) (l : ℕ) → l ≡ length output → new ≡ over output old → take l new ≡ output
+over-front output old new l e n = ap₂ take e n ∙ take-append-seam output (drop (length output) old)
 
-  emitted-whole : new ≡ output ++ drop (length output) old
-  emitted-whole = E .leaves ∙ sym (filled-answered (outcome refusal values) output old vs (sym e ∙ E .says))
-
-  emitted-front : take (length output) new ≡ output
-  emitted-front = ap (take (length output)) emitted-whole ∙ take-append-seam output (drop (length output) old)
-
--- What is answered as written lies within the buffer.
-pub clauses-inside : (L : Limits) (s q : List ℕ) (old new : List ℤ) (l v c : ℕ) → ClausesPromise L s q old new (written.Written l v c) → l ≤ length new
-unfolding outcome ClausesPromise clausesOutcome
-clauses-inside L s q old new l v c E =
-    let output = clausesOutput s q in
-    let asked = clausesQuestions L (length old) s q in
-    let z : asked ≡ 0 = emitted-passed asked (length output ∷ clauseNumbers s q) output old new _ (l ∷ v ∷ c ∷ []) E refl in
-    let same : answered (l ∷ v ∷ c ∷ []) ≡ answered (length output ∷ clauseNumbers s q) = E .says ∙ rw z refl in
-    let size : l ≡ length output = cc same in
-    let whole = ap length (emitted-whole asked (length output ∷ clauseNumbers s q) output old new _ (l ∷ v ∷ c ∷ []) E refl) in
-    let parts = length-append output (drop (length output) old) in
-    omega arith
-
-module _ (L : Limits) (s q : List ℕ) where
-  module _ (old new : List ℤ) (r : ClausesAnswer) (values : List ℕ) (E : ClausesPromise L s q old new r) (e : fromClauses r ≡ answered values) where
-    clauses-back : readWords (take (length (clausesOutput s q)) new) ≡ clausesOf (program s) (entries q)
-    unfolding clausesOutput ClausesPromise clausesOutcome
-    clauses-back =
-        let z = then-passed (testQuestions L s q) _ (emitted-passed _ _ (clausesOutput s q) old new (fromClauses r) values E e) .0 in
-        ap readWords (emitted-front _ _ (clausesOutput s q) old new (fromClauses r) values E e) ∙ words-are-clauses (program s) (entries q) (test-accepted L s q z)
-
-  module _ (old new : List ℕ) (r : WriteAnswer) (values : List ℕ) (E : UnfoldedPromise L s q old new r) (e : fromWrite r ≡ answered values) where
-    front : take (length (unfoldedOutput s q)) new ≡ words (unfolded (program s) (entries q))
-    unfolding unfoldedOutput UnfoldedPromise unfoldedOutcome
-    front = emitted-front _ _ (unfoldedOutput s q) old new (fromWrite r) values E e
-
-    unfolded-back : readUnfolded (take (length (unfoldedOutput s q)) new) ≡ nameless (unfolded (program s) (entries q))
-    unfolded-back = ap readUnfolded front ∙ words-are-unfolded (program s) (entries q)
-
-    unfolded-no-loop : NoPositiveLoop (readUnfolded (take (length (unfoldedOutput s q)) new))
-    unfolding UnfoldedPromise unfoldedOutcome
-    unfolded-no-loop =
-        let A = test-accepted L s q (then-passed (testQuestions L s q) _ (emitted-passed _ _ (unfoldedOutput s q) old new (fromWrite r) values E e) .0) in
-        subst (λ ws. NoPositiveLoop (readUnfolded ws)) (sym front) (words-have-no-loop (program s) (A .program) (entries q) (A .entries))
-
-pub demand-3 : (L : Limits) → Demand3 L
-demand-3 L =
+-- Writing the unfolded program.
+unfolded-derived : (L : Limits) (s q old new : List ℕ) (l : ℕ) → Succeeded L (call.unfolded s q old) (l ∷ []) (unsigned new) → UnfoldedWords s q (take l new)
+unfolding questions values written unfoldedOutput
+unfolded-derived L s q old new l K =
+    let size : l ≡ length (unfoldedOutput s q) = cc (K .same) in
+    let front = over-front (unfoldedOutput s q) old new l size (cc (K .holds)) in
+    let A = accepted-both L s q _ (K .yeses) in
     record {
-      faithful = λ s q z. clauses-are-faithful (program s) (entries q) (test-accepted L s q z);
-      clauses-written = λ s q old new r values E e. clauses-back L s q old new r values E e;
-      unfolded-written = λ s q old new r values E e. unfolded-back L s q old new r values E e;
-      no-loop = λ s q old new r values E e. unfolded-no-loop L s q old new r values E e;
+      derived = ap readUnfolded front ∙ words-are-unfolded (program s) (entries q);
+      no-loop = subst (λ ws. NoPositiveLoop (readUnfolded ws)) (sym front) (words-have-no-loop (program s) (A .program) (entries q) (A .entries));
     }
+
+-- Writing clauses.
+module _ (L : Limits) (s q : List ℕ) (old new : List ℤ) (l v c : ℕ) (K : Succeeded L (call.clauses s q old) (l ∷ v ∷ c ∷ []) (signed new)) where
+  clauses-sizes : l ∷ v ∷ c ∷ [] ≡ length (clausesOutput s q) ∷ variablesOf (program s) (entries q) ∷ length (clausesOf (program s) (entries q)) ∷ []
+  unfolding values clauseNumbers
+  clauses-sizes = K .same
+
+  clauses-hold : new ≡ over (clausesOutput s q) old
+  unfolding written
+  clauses-hold = cc (K .holds)
+
+  clauses-accepted : claims.Accepted (program s) (entries q)
+  unfolding questions
+  clauses-accepted = accepted-both L s q _ (K .yeses)
+
+  clauses-back : readWords (take l new) ≡ clausesOf (program s) (entries q)
+  unfolding clausesOutput
+  clauses-back =
+      ap readWords (over-front (clausesOutput s q) old new l (cc clauses-sizes) clauses-hold) ∙ words-are-clauses (program s) (entries q) clauses-accepted
+
+  clauses-derived : ClauseWords s q (take l new) v c
+  clauses-derived =
+      let number : c ≡ length (clausesOf (program s) (entries q)) = cc clauses-sizes in
+      record { derived = clauses-back; variables = cc clauses-sizes; clauses = number ∙ ap length (sym clauses-back) }
+
+  clauses-numbered : Numbered (readWords (take l new)) v
+  clauses-numbered =
+      let number : variablesOf (program s) (entries q) ≡ v = cc clauses-sizes in
+      subst (Numbered (readWords (take l new))) number
+      (subst (λ cs. Numbered cs (variablesOf (program s) (entries q))) (sym clauses-back) (literals-are-numbered (program s) (entries q) clauses-accepted))
+
+-- The chain question in a call that asks `rest` behind it.
+module _ (L : Limits) (s q rest : List ℕ) (c : Call) (is : questions L c ≡ sheetAsked L s ++ (question8 L s q ∷ question9 s q ∷ rest))
+    (other : first rest ≡ 9 → ⊥) (far : AsFarAsChains L s q) where
+  behind : first (questions L c) ≡ question9 s q then first rest
+  unfolding first
+  behind =
+      let y = parted L s _ far in
+      ap first is ∙ (first-append (sheetAsked L s) (question8 L s q ∷ question9 s q ∷ rest) ∙ (then-zero (first (sheetAsked L s)) _ (y .0)
+      ∙ then-zero (question8 L s q) _ (then-passed (question8 L s q) 0 (y .1) .0)))
+
+  nine-is-chains : (S : Service) → Demand1 L S → NineIsChains S c s q
+  unfolding ask _then_
+  nine-is-chains S D o b A =
+      let same = passes-iff (program s) (formed L s _ far) (entries q) in (
+        λ ne. by-bool (passes (program s) (entries q)) (same .0)
+            (λ f. absurd (ne (decided-refused L c o b 9 (D c o b A) (behind ∙ rw f refl) (λ e. omega arith)))),
+        λ found e. other (sym (ask-yes (same .1 found) 9 (first rest)) ∙ (sym behind ∙ decided-number L c b 9 (subst (λ o. Decided L c o b) e (D c o b A)))),
+      )
+
+room-other : {A : Type 0} (output : List A) (room : ℕ) → first (question10 output room ∷ []) ≡ 9 → ⊥
+unfolding first ask _then_
+room-other output room e =
+    by-bool (leb (length output) room) (λ t. let z : _≡_ {A = ℕ} 0 9 = rw t at e in omega arith) (λ f. let z : _≡_ {A = ℕ} 10 9 = rw f at e in omega arith)
+
+none-other : first [] ≡ 9 → ⊥
+unfolding first
+none-other e = omega arith
+
+module _ (L : Limits) (S : Service) (D : Demand1 L S) where
+  succeeded : (c : Call) (vs : List ℕ) (b : Buffer) → S c (answered vs) b → Succeeded L c vs b
+  succeeded c vs b A = decided-answered L c vs b (D c (answered vs) b A)
+
+  pub demand-2-of : Demand2 L S
+  demand-2-of =
+      record {
+        counted = λ s counted b A. counted-exact L s counted b (succeeded _ _ _ A);
+        unfolds = λ s q old new l A. unfolded-derived L s q old new l (succeeded _ _ _ A);
+        derives = λ s q old new l v c A. clauses-derived L s q old new l v c (succeeded _ _ _ A);
+      }
+
+  pub demand-3-of : Demand3 L S
+  unfolding questions
+  demand-3-of =
+      record {
+        faithful = λ s q y. clauses-are-faithful (program s) (entries q) (accepted-both L s q [] y);
+        numbered = λ s q y. literals-are-numbered (program s) (entries q) (accepted-both L s q [] y);
+        accepted = λ s q old new l v c A. test-accepts L s q _ (succeeded _ _ _ A .yeses);
+        written = λ s q old new l v c A. clauses-numbered L s q old new l v c (succeeded _ _ _ A);
+        tested = λ s q far. nine-is-chains L s q [] (call.test s q) refl none-other far S D;
+        unfolds = λ s q old far. nine-is-chains L s q _ (call.unfolded s q old) refl (room-other (unfoldedOutput s q) (length old)) far S D;
+        derives = λ s q old far. nine-is-chains L s q _ (call.clauses s q old) refl (room-other (clausesOutput s q) (length old)) far S D;
+      }
+
+-- The demands of the operations.
+pub demand-2 : (L : Limits) → Demand2 L (Promised L)
+demand-2 L = demand-2-of L (Promised L) (demand-1 L)
+
+pub demand-3 : (L : Limits) → Demand3 L (Promised L)
+demand-3 L = demand-3-of L (Promised L) (demand-1 L)

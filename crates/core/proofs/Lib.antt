@@ -1,5 +1,6 @@
 pub mod Chains
 pub mod Outcomes
+pub mod Calls
 pub mod Asking
 pub mod Counting
 pub mod Default

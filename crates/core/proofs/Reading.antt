@@ -1,4 +1,5 @@
 -- Laws of reading and of showing a body.
+use mathlib.Core.Bool.{cond}
 use mathlib.Core.List.{List, [], _∷_}
 use mathlib.Core.Path.{_≡_, refl, sym, _∙_, ap}
 use Prim.Native.Nat.{ℕ, zero, suc, _+_, _-_, _≤_, _<_}
@@ -16,9 +17,9 @@ use Rattle.sheet.proofs.Records.{then-refused, then-zero}
 use Rattle.sheet.proofs.Walk.{formed, walk-known}
 use Rattle.core.specs.declared.Asked.{Asked}
 use Rattle.core.specs.Outcome.{answered}
-use Rattle.core.specs.Outputs.{offset, place, bodyEnd, bodyPositives, slice}
+use Rattle.core.specs.Outputs.{offset, place, bodyStart, bodyEnd, bodyPositives, slice}
 use Rattle.core.specs.Questions.{readQuestions, bodyQuestions}
-use Rattle.core.specs.Promises.{readOutcome, ReadPromise, bodyOutcome, BodyPromise, SlicePromise, bodyAt, nowhere, bodyPlace, FindPromise}
+use Rattle.core.specs.Promises.{readOutcome, ReadPromise, bodyOutcome, BodyPromise, shifted, SlicePromise, bodyAt, nowhere, bodyPlace, FindPromise}
 use Rattle.core.specs.inner.Places.{Placed}
 use Rattle.core.specs.inner.Asked.{SheetAsked}
 use Rattle.core.specs.declared.BodyAnswer.the-variants as body
@@ -137,12 +138,25 @@ module _ (L : Limits) (i : ℕ) (s : List ℕ) where
         ap (λ (b : BodyPlace). answered (b .positives ∷ [])) (found-place z)
         ∙ outcome-answered (bodyQuestions L i s) (bodyPositives i s ∷ []) (sym found-says ∙ z)
 
-    pub slice-none : (b .refusal ≡ 0 → ⊥) → SlicePromise L i s []
-    unfolding SlicePromise
-    slice-none ne = sym (rw (ne-eqb (bodyQuestions L i s) 0 (λ z. ne (found-says ∙ z))) refl)
+    -- The slice from the start to the end that are found, which on a refusal are 0.
+    pub slice-shown : (base : ℕ × ℕ) → SlicePromise L i s base (part (b .start) (b .end) s) (shifted (b .start) base)
+    unfolding slice bodyPlace
+    slice-shown base =
+        record {
+          contents = ap (λ (b : BodyPlace). part (b .start) (b .end) s) (F .is) ∙ by-bool (eqb (bodyQuestions L i s) 0) (λ t. rw t refl) (λ f. rw f refl);
+          lies = ap (λ (b : BodyPlace). shifted (b .start) base) (F .is) ∙ by-bool (eqb (bodyQuestions L i s) 0) (λ t. rw t refl) (λ f. rw f refl);
+        }
 
-    pub slice-shown : b .refusal ≡ 0 → SlicePromise L i s (part (b .start) (b .end) s)
-    unfolding SlicePromise slice
-    slice-shown z =
-        ap (λ (b : BodyPlace). part (b .start) (b .end) s) (found-place z)
-        ∙ sym (rw (eq-eqb (bodyQuestions L i s) 0 (sym found-says ∙ z)) refl)
+    -- What is empty has these contents wherever it lies; only a refusal's slice lies at the beginning.
+    pub contents-empty : b .end ≤ b .start → [] ≡ cond (eqb (bodyQuestions L i s) 0) (slice i s) []
+    contents-empty l = let z : b .end - b .start ≡ 0 = omega arith in rw z at slice-shown (0, 0) .contents
+
+    refused-nowhere : (b .refusal ≡ 0 → ⊥) → b ≡ nowhere (bodyQuestions L i s)
+    unfolding bodyPlace
+    refused-nowhere ne = F .is ∙ rw (ne-eqb (bodyQuestions L i s) 0 (λ z. ne (found-says ∙ z))) refl
+
+    pub refused-empty : (b .refusal ≡ 0 → ⊥) → b .end ≤ b .start
+    refused-empty ne = let e = ap (λ (b : BodyPlace). b .end) (refused-nowhere ne) in omega arith
+
+    pub refused-lies : (base : ℕ × ℕ) → (b .refusal ≡ 0 → ⊥) → shifted 0 base ≡ shifted (cond (eqb (bodyQuestions L i s) 0) (bodyStart i s) 0) base
+    refused-lies base ne = rw (ap (λ (b : BodyPlace). b .start) (refused-nowhere ne)) at slice-shown base .lies

@@ -1,25 +1,26 @@
 -- Laws of testing a sequence.
-use mathlib.Core.Bool.{Bool, true}
+use mathlib.Core.Bool.{true}
 use mathlib.Core.List.{List, []}
-use mathlib.Core.Path.{_≡_, refl, sym, _∙_}
+use mathlib.Core.Path.{_≡_, sym, _∙_}
 use Prim.Native.Nat.{ℕ}
 use native.Mathlib.Omega.{arith}
 use Rattle.asp.specs.Program.{wellFormed}
 use Rattle.unfolding.specs.Chain.{passes}
+use Rattle.unfolding.specs.Claims.{Accepted}
 use Rattle.unfolding.proofs.Chains.{passes-iff}
-use Rattle.sheet.specs.Questions.{ask}
-use Rattle.sheet.specs.Sheet.{program}
-use Rattle.sheet.specs.Sequence.{entries}
+use Rattle.sheet.specs.Questions.{_then_}
+use Rattle.sheet.specs.Format.{atomsByte}
+use Rattle.sheet.specs.Sequence.{entries, sequenceFits}
+use Rattle.sheet.specs.Sheet.{programOf, program}
 use Rattle.sheet.specs.declared.Limits.{Limits}
-use Rattle.sheet.proofs.Records.{ask-yes, then-zero}
-use Rattle.sheet.proofs.Walk.{program-formed, ask-passed}
-use Rattle.core.specs.Questions.{question9, readQuestions, testQuestions}
+use Rattle.sheet.proofs.Sequences.{fits-out}
+use Rattle.sheet.proofs.Walk.{program-formed, ask-passed, then-passed}
+use Rattle.core.specs.Questions.{question8, question9, readQuestions, testQuestions}
 use Rattle.core.specs.Promises.{testOutcome, TestPromise}
-use Rattle.core.specs.Demands.{TestIsChains}
 use Rattle.core.specs.inner.Asked.{BothAsked}
 use Rattle.core.specs.declared.Asked.{Asked}
 use Rattle.core.specs.declared.TestAnswer.the-variants as test
-use Rattle.core.proofs.Chains.{test-asked, read-passed}
+use Rattle.core.proofs.Chains.{read-passed, test-asked}
 use Rattle.core.proofs.Outcomes.{outcome-refused, outcome-answered}
 
 module _ (L : Limits) (s q : List ℕ) (r : Asked) (E : BothAsked L s q r) where
@@ -31,17 +32,22 @@ module _ (L : Limits) (s q : List ℕ) (r : Asked) (E : BothAsked L s q r) where
   unfolding TestPromise testOutcome
   test-passed z = outcome-answered (testQuestions L s q) [] (sym (E .says) ∙ z)
 
-ask-true : (b : Bool) (number : ℕ) → b ≡ true → ask b number ≡ 0
-unfolding ask
-ask-true b number e = rw e refl
-
 pub program-accepted : (L : Limits) (s : List ℕ) → readQuestions L s ≡ 0 → wellFormed (program s) ≡ true
 program-accepted L s z = program-formed L s (read-passed L s z .form)
 
-pub test-is-chains : (L : Limits) → TestIsChains L
-test-is-chains L s q z t =
-    let ninth : testQuestions L s q ≡ question9 s q = test-asked L s q ∙ (then-zero (readQuestions L s) _ z ∙ ask-yes t 8 (question9 s q)) in
-    let same = passes-iff (program s) (program-accepted L s z) (entries q) in (
-      λ e. same .0 (ask-passed (passes (program s) (entries q)) 9 (λ n. omega arith) (sym ninth ∙ e)),
-      λ h. ninth ∙ ask-true (passes (program s) (entries q)) 9 (same .1 h),
-    )
+-- What testing accepts is a well-formed program and a sequence of its atoms that has every chain.
+pub both-accepted : (L : Limits) (s q : List ℕ) → readQuestions L s ≡ 0 → question8 L s q ≡ 0 → question9 s q ≡ 0 → Accepted (program s) (entries q)
+unfolding program programOf
+both-accepted L s q z e n =
+    let wf = program-accepted L s z in
+    record {
+      program = wf;
+      entries = fits-out L (atomsByte s) q (ask-passed (sequenceFits L (atomsByte s) q) 8 (λ e. omega arith) e) .low;
+      found = passes-iff (program s) wf (entries q) .0 (ask-passed (passes (program s) (entries q)) 9 (λ e. omega arith) n);
+    }
+
+pub test-accepted : (L : Limits) (s q : List ℕ) → testQuestions L s q ≡ 0 → Accepted (program s) (entries q)
+test-accepted L s q z =
+    let a = then-passed (readQuestions L s) (question8 L s q then question9 s q) (sym (test-asked L s q) ∙ z) in
+    let b = then-passed (question8 L s q) (question9 s q) (a .1) in
+    both-accepted L s q (a .0) (b .0) (b .1)

@@ -70,6 +70,9 @@ module _ (L : Limits) (s q : List ℕ) (r : Asked) (E : BothAsked L s q r) where
     unfolding UnfoldedPromise unfoldedOutcome
     unfolded-full old k e l = room-full (testQuestions L s q) (unfoldedOutput s q) [] old passed (let f = e ∙ ap length output in omega arith)
 
+    pub unfolded-room : (old : List ℕ) (k : ℕ) → k ≡ length (words (unfoldedIn (r .program) q)) → k ≤ length old → length (words (unfoldedIn (r .program) q)) ≤ length old
+    unfolded-room old k e l = omega arith
+
     pub unfolded-done : (old new : List ℕ) (k next : ℕ) → k ≡ length (words (unfoldedIn (r .program) q)) → k ≤ length old
         → Wrote old 0 (words (unfoldedIn (r .program) q)) new next → UnfoldedPromise L s q old new (write.Length next)
     unfolding UnfoldedPromise unfoldedOutcome
@@ -90,6 +93,9 @@ module _ (L : Limits) (s q : List ℕ) (r : Asked) (E : BothAsked L s q r) where
       unfolding ClausesPromise clausesOutcome
       clauses-full old l =
           room-full (testQuestions L s q) (clausesOutput s q) (clauseNumbers s q) old passed (let f = N .words ∙ ap length derived in omega arith)
+
+      pub clauses-room : (old : List ℤ) → k .words ≤ length old → length (signedWords (clauses (unfoldedIn (r .program) q))) ≤ length old
+      clauses-room old l = let f = N .words in omega arith
 
       pub clauses-done : (old new : List ℤ) (next : ℕ) → k .words ≤ length old
           → Wrote old 0 (signedWords (clauses (unfoldedIn (r .program) q))) new next

@@ -18,7 +18,7 @@ use Rattle.sheet.specs.declared.Limits.{Limits}
 use Rattle.sheet.proofs.Records.{then-refused, then-zero}
 use Rattle.core.specs.declared.Asked.{Asked}
 use Rattle.writer.specs.inner.Wrote.{Wrote}
-use Rattle.writer.proofs.Writing.{wrote-append, wrote-whole}
+use Rattle.writer.proofs.Writing.{wrote-append, wrote-length, wrote-whole}
 use Rattle.sheet_output.specs.inner.Names.{nameBytes, blockOf, blocksOf}
 use Rattle.core.specs.Outcome.{Outcome, refused, answered, outcome, Emits}
 use Rattle.core.specs.Outputs.{componentsOutput, sequenceHeader, sequenceBytes, defaultOutput}
@@ -87,8 +87,8 @@ module _ (L : Limits) (s : List ℕ) (r : Asked) (A : SheetAsked L s r) (z : r .
   pub names-low : r .program .atoms ≤ 64
   names-low = atoms-low L s r K
 
-  pub names-room : 0 + length (nameBytes (r .components .names) (r .program .atoms)) < 4294967296
-  names-room = let k = names-low in let e = ap length bytes in let f = size in omega arith
+  pub names-room : (old : List ℕ) → r .program .atoms ≤ length old → 0 + length (nameBytes (r .components .names) (r .program .atoms)) ≤ length old
+  names-room old l = let e = ap length bytes in let f = size in omega arith
 
   pub components-full : (old : List ℕ) → length old < r .program .atoms → ComponentsPromise L s old old (write.Refused 10)
   unfolding ComponentsPromise componentsOutcome
@@ -123,8 +123,9 @@ module _ (L : Limits) (s : List ℕ) (r : Asked) (A : SheetAsked L s r) (z : r .
     pub entries-fit : t + 3 < 2 ^ 64
     entries-fit = let k = entries-few in omega arith
 
-    pub blocks-room : (old mid : List ℕ) (at : ℕ) → Wrote old 0 (sequenceHeader t) mid at → at + length (blocksOf (r .components .sets) (r .program .atoms)) < 4294967296
-    blocks-room old mid at H = let k = entries-few in let m = H .moved in omega arith
+    pub blocks-room : (old mid : List ℕ) (at : ℕ) → t + 3 ≤ length old → Wrote old 0 (sequenceHeader t) mid at
+        → at + length (blocksOf (r .components .sets) (r .program .atoms)) ≤ length mid
+    blocks-room old mid at l H = let m = H .moved in let n = wrote-length _ _ _ _ _ H in omega arith
 
     default-size : length (defaultOutput s) ≡ t + 3
     unfolding defaultOutput sequenceBytes

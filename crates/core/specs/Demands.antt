@@ -1,45 +1,93 @@
--- What the promises of the operations amount to: demand 3 of every sheet and sequence that testing accepts, and what testing accepts.
-use mathlib.Core.Bool.{true}
-use mathlib.Core.List.{List}
+-- The three demands of a service with these limits, over the answers that it allows to a call.
+use mathlib.Core.List.{List, [], _∷_, List·Memᴰ, _++_}
 use mathlib.Core.Logic.{_↔_}
 use mathlib.Core.Path.{_≡_}
-use Prim.Native.Nat.{ℕ}
+use Prim.Native.Nat.{ℕ, _≤_}
 use lib.IntN.{ℤ}
 use lib.ListN.{length, take}
+use Rattle.asp.specs.Program.{Program, State}
+use Rattle.asp.specs.AnswerSet.{IsAnswerSet}
+use Rattle.asp.specs.Count.{verdict, Enumerates}
 use Rattle.unfolding.specs.Chain.{Passes}
 use Rattle.unfolding.specs.Unfolded.{NoPositiveLoop, unfolded}
 use Rattle.unfolding.specs.Decoded.{readUnfolded, nameless}
-use Rattle.unfolding.specs.Clauses.{readWords}
-use Rattle.unfolding.specs.Faithful.{clausesOf, Faithful}
-use Rattle.sheet.specs.Format.{atomsByte}
-use Rattle.sheet.specs.Sequence.{sequenceFits, entries}
+use Rattle.unfolding.specs.Clauses.{Literal, Clause, variableOf, readWords}
+use Rattle.unfolding.specs.Faithful.{clausesOf, variablesOf, Faithful}
+use Rattle.sheet.specs.Sequence.{entries}
 use Rattle.sheet.specs.Sheet.{program}
 use Rattle.sheet.specs.declared.Limits.{Limits}
-use Rattle.core.specs.Outcome.{answered, fromWrite, fromClauses}
-use Rattle.core.specs.Outputs.{defaultOutput, unfoldedOutput, clausesOutput}
-use Rattle.core.specs.Questions.{readQuestions, testQuestions}
-use Rattle.core.specs.Promises.{UnfoldedPromise, ClausesPromise}
-use Rattle.core.specs.declared.ClausesAnswer.{ClausesAnswer}
-use Rattle.core.specs.declared.WriteAnswer.{WriteAnswer}
+use Rattle.core.specs.Outcome.{Outcome, refused, answered, code}
+use Rattle.core.specs.Outputs.{defaultOutput}
+use Rattle.core.specs.Questions.{question8}
+use Rattle.core.specs.Calls.{Call, Buffer, unsigned, signed, lent, sheetAsked, questions, AllYes, FirstNo, values, written, Service}
+use Rattle.core.specs.Calls as call
+
+-- The first no refuses, by its number alone, and what is lent stays as it was; without a no the values are answered and the output is written.
+pub data Decided (L : Limits) (c : Call) (o : Outcome) (b : Buffer) : Type 0 where
+  refuses : (k : ℕ) → FirstNo (questions L c) k → o ≡ refused k → b ≡ lent c → Decided L c o b
+  answers : AllYes (questions L c) → o ≡ answered (values c) → b ≡ written c → Decided L c o b
+
+-- Demand 1: every call is decided so, whatever the sheet, the sequence and the buffer.
+abbrev pub Demand1 : Limits → Service → Type 0
+Demand1 L S = (c : Call) (o : Outcome) (b : Buffer) → S c o b → Decided L c o b
+
+-- The count and the verdict of document 000: there is a list of exactly the answer sets, each once, and these are its length and the verdict on it.
+pub record AnswerSetsCounted (P : Program) (counted : List ℕ) : Type 0 where
+  pub list : List State
+  pub listed : Enumerates (IsAnswerSet P) list
+  pub exact : (l : List State) → Enumerates (IsAnswerSet P) l → counted ≡ length l ∷ code (verdict (length l)) ∷ []
+
+-- The words of the unfolded program that document 01 derives: read back they are it, and it has no positive loop.
+pub record UnfoldedWords (s q words : List ℕ) : Type 0 where
+  pub derived : readUnfolded words ≡ nameless (unfolded (program s) (entries q))
+  pub no-loop : NoPositiveLoop (readUnfolded words)
+
+-- The words of the clauses that document 01 derives, v variables and c clauses: read back they are these.
+pub record ClauseWords (s q : List ℕ) (words : List ℤ) (v c : ℕ) : Type 0 where
+  pub derived : readWords words ≡ clausesOf (program s) (entries q)
+  pub variables : v ≡ variablesOf (program s) (entries q)
+  pub clauses : c ≡ length (readWords words)
+
+-- Demand 2.
+pub record Demand2 (L : Limits) (S : Service) : Type 0 where
+  -- The count and the verdict on a sheet that counting does not refuse.
+  pub counted : (s counted : List ℕ) (b : Buffer) → S (call.count s) (answered counted) b → AnswerSetsCounted (program s) counted
+  -- The l words of the unfolded program.
+  pub unfolds : (s q old new : List ℕ) (l : ℕ) → S (call.unfolded s q old) (answered (l ∷ [])) (unsigned new) → UnfoldedWords s q (take l new)
+  -- The l words of its clauses, with the numbers of variables and of clauses.
+  pub derives : (s q : List ℕ) (old new : List ℤ) (l v c : ℕ) → S (call.clauses s q old) (answered (l ∷ v ∷ c ∷ [])) (signed new)
+      → ClauseWords s q (take l new) v c
+
+-- A sheet and a sequence are accepted: no question that testing asks gets a no.
+abbrev pub Accepted : Limits → List ℕ → List ℕ → Type 0
+Accepted L s q = AllYes (questions L (call.test s q))
+
+-- They come as far as the chain question.
+abbrev pub AsFarAsChains : Limits → List ℕ → List ℕ → Type 0
+AsFarAsChains L s q = AllYes (sheetAsked L s ++ (question8 L s q ∷ []))
+
+-- The literals name variables from 1 to v.
+abbrev pub Numbered : List Clause → ℕ → Type 0
+Numbered cs v = (c : Clause) → List·Memᴰ c cs → (l : Literal) → List·Memᴰ l c → (1 ≤ variableOf l) × (variableOf l ≤ v)
+
+-- Whatever is answered to the call, it is not 9 just when every chain is found in the sequence.
+abbrev pub NineIsChains : Service → Call → List ℕ → List ℕ → Type 0
+NineIsChains S c s q = (o : Outcome) (b : Buffer) → S c o b → (o ≡ refused 9 → ⊥) ↔ Passes (program s) (entries q)
 
 -- Demand 3.
-pub record Demand3 (L : Limits) : Type 0 where
-  -- The clauses derived from whatever testing accepts: their models, cut, are exactly the stable models, one model for each.
-  pub faithful : (s q : List ℕ) → testQuestions L s q ≡ 0 → Faithful (program s) (entries q)
-  -- Where clauses are written, the words in the buffer read back are these clauses.
-  pub clauses-written : (s q : List ℕ) (old new : List ℤ) (r : ClausesAnswer) (values : List ℕ) → ClausesPromise L s q old new r
-      → fromClauses r ≡ answered values → readWords (take (length (clausesOutput s q)) new) ≡ clausesOf (program s) (entries q)
-  -- Where the unfolded program is written, the words in the buffer read back are it, and it has no positive loop.
-  pub unfolded-written : (s q old new : List ℕ) (r : WriteAnswer) (values : List ℕ) → UnfoldedPromise L s q old new r
-      → fromWrite r ≡ answered values → readUnfolded (take (length (unfoldedOutput s q)) new) ≡ nameless (unfolded (program s) (entries q))
-  pub no-loop : (s q old new : List ℕ) (r : WriteAnswer) (values : List ℕ) → UnfoldedPromise L s q old new r
-      → fromWrite r ≡ answered values → NoPositiveLoop (readUnfolded (take (length (unfoldedOutput s q)) new))
+pub record Demand3 (L : Limits) (S : Service) : Type 0 where
+  -- The models of the clauses derived, cut, are exactly the stable models, one model for each, and the clauses name these variables alone.
+  pub faithful : (s q : List ℕ) → Accepted L s q → Faithful (program s) (entries q)
+  pub numbered : (s q : List ℕ) → Accepted L s q → Numbered (clausesOf (program s) (entries q)) (variablesOf (program s) (entries q))
+  -- Where clauses are written, whatever the room, this holds of them: testing accepts, and the words' literals are numbered up to the v answered.
+  pub accepted : (s q : List ℕ) (old new : List ℤ) (l v c : ℕ) → S (call.clauses s q old) (answered (l ∷ v ∷ c ∷ [])) (signed new) → Accepted L s q
+  pub written : (s q : List ℕ) (old new : List ℤ) (l v c : ℕ) → S (call.clauses s q old) (answered (l ∷ v ∷ c ∷ [])) (signed new)
+      → Numbered (readWords (take l new)) v
+  -- The chain question, in every operation that asks it, whatever the room.
+  pub tested : (s q : List ℕ) → AsFarAsChains L s q → NineIsChains S (call.test s q) s q
+  pub unfolds : (s q old : List ℕ) → AsFarAsChains L s q → NineIsChains S (call.unfolded s q old) s q
+  pub derives : (s q : List ℕ) (old : List ℤ) → AsFarAsChains L s q → NineIsChains S (call.clauses s q old) s q
 
--- What the default sequence writes is accepted by questions 8 and 9.
+-- Questions 8 and 9 never stop the default sequence.
 abbrev pub DefaultAccepted : Limits → Type 0
-DefaultAccepted L = (s : List ℕ) → readQuestions L s ≡ 0 → testQuestions L s (defaultOutput s) ≡ 0
-
--- Where a sheet and a sequence come as far as the chain question, the sequence passes just when every chain is found in it.
-abbrev pub TestIsChains : Limits → Type 0
-TestIsChains L =
-    (s q : List ℕ) → readQuestions L s ≡ 0 → sequenceFits L (atomsByte s) q ≡ true → (testQuestions L s q ≡ 0) ↔ Passes (program s) (entries q)
+DefaultAccepted L = (s : List ℕ) → AllYes (sheetAsked L s) → Accepted L s (defaultOutput s)

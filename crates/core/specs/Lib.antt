@@ -2,5 +2,6 @@ pub mod Outcome
 pub mod Outputs
 pub mod Questions
 pub mod Promises
+pub mod Calls
 pub mod Demands
 pub mod inner

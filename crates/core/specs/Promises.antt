@@ -2,7 +2,7 @@
 use mathlib.Core.Bool.{cond}
 use mathlib.Core.List.{List, [], _∷_}
 use mathlib.Core.Path.{_≡_}
-use Prim.Native.Nat.{ℕ, _≤_}
+use Prim.Native.Nat.{ℕ, _+_, _≤_}
 use lib.Dec.{eqb}
 use lib.IntN.{ℤ}
 use lib.ListN.{length}
@@ -37,9 +37,14 @@ bodyOutcome L i s = outcome (bodyQuestions L i s) (bodyPositives i s ∷ [])
 unfoldable pub BodyPromise : Limits → ℕ → List ℕ → BodyAnswer → Type 0
 BodyPromise L i s r = fromBody r ≡ bodyOutcome L i s
 
--- Its slice of the sheet, empty on a refusal.
-unfoldable pub SlicePromise : Limits → ℕ → List ℕ → List ℕ → Type 0
-SlicePromise L i s r = r ≡ cond (eqb (bodyQuestions L i s) 0) (slice i s) []
+-- The place so many bytes further on. A place is a block of memory and an offset in it.
+abbrev pub shifted : ℕ → ℕ × ℕ → ℕ × ℕ
+shifted k place = (place .0, k + place .1)
+
+-- Its slice, of a sheet that lies at `base`: a part of the sheet, also where the body is empty; on a refusal it is empty and lies at the sheet's beginning.
+pub record SlicePromise (L : Limits) (i : ℕ) (s : List ℕ) (base : ℕ × ℕ) (r : List ℕ) (at : ℕ × ℕ) : Type 0 where
+  pub contents : r ≡ cond (eqb (bodyQuestions L i s) 0) (slice i s) []
+  pub lies : at ≡ shifted (cond (eqb (bodyQuestions L i s) 0) (bodyStart i s) 0) base
 
 -- Where the body of record i stands.
 abbrev pub bodyAt : ℕ → List ℕ → BodyPlace

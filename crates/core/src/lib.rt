@@ -7,7 +7,8 @@ use components::Components;
 use components::components_of;
 use components::fits;
 use program::ProgramTable;
-use reader::read_sheet;
+use reader::read_header;
+use reader::read_records;
 use sheet::Limits;
 use sheet::next_record;
 use sheet::record_end;
@@ -19,8 +20,10 @@ use translation::program_of;
 use unfolded_output::put_unfolded;
 use unfolded_output::unfolded_length;
 use writer::put;
+ghost use denote.Ref.{ptr};
 ghost use mathlib.Core.Path.{_≡_};
 ghost use Prim.Native.Nat.{_≤_, _<_};
+ghost use lib.ListN.{length};
 ghost use Rattle.asp.specs.Count.{verdict};
 ghost use Rattle.sheet.specs.inner.Walk.{Walk};
 ghost use Rattle.chains.specs.inner.Subsets.{Small};
@@ -108,32 +111,46 @@ fn refused(refusal: u32) -> Asked
     }
 }
 
-// The questions about a sheet: 1 to 6 as it is read, then 7.
+// The questions about a sheet: 1 to 3, then 4 to 6 as its records are read, then 7.
 fn ask_sheet(limits: Limits, s: &[u8]) -> Asked
     requires { ⌜ Supported limits ⌝ }
     ensures { λ r. ⌜ SheetAsked limits (now (s .entry)) r ⌝ }
 {
-    let table = read_sheet(limits, s);
-    let refusal = table.refusal;
+    let header = read_header(limits, s);
+    if header.refusal != 0 {
+        return refused(header.refusal);
+    }
+    let n = header.atoms;
+    let m = header.records;
+    let mut kinds = [0u8; 128];
+    let mut heads = [0u8; 128];
+    let mut pos = [0u64; 128];
+    let mut neg = [0u64; 128];
+    let refusal = read_records(s, n, m, &mut kinds, &mut heads, &mut pos, &mut neg);
     if refusal != 0 {
         return refused(refusal);
     }
-    let program = program_of(table);
-    let components = components_of(program);
-    let sets = components.sets;
-    if !fits(&sets, program.atoms, limits.component) {
+    let program = program_of(n, m, &kinds, &heads, &pos, &neg);
+    let components = components_of(n, program.rules, &program.heads, &program.pos);
+    if !fits(&components.sets, n, limits.component) {
         return refused(7);
     }
     Asked {
         refusal: 0,
-        records: table.count,
+        records: m,
         program,
         components,
     }
 }
 
 // The questions about a sequence, of a program of n atoms with its edges and the sets of its components: 8, then 9.
-fn ask_sequence(limits: Limits, n: usize, edges: &[u64; 64], sets: &[u64; 64], q: &[u8]) -> u32
+fn ask_sequence<'a>(
+    limits: Limits,
+    n: usize,
+    edges: &'a [u64; 64],
+    sets: &'a [u64; 64],
+    q: &[u8],
+) -> u32
     requires { ⌜ (n ≤ 64) × Small n (now sets) ⌝ }
     ensures { λ r. ⌜ SequenceAsked limits n (now (edges .entry)) (now (sets .entry)) (now (q .entry)) r ⌝ }
 {
@@ -155,10 +172,8 @@ fn ask_both(limits: Limits, s: &[u8], q: &[u8]) -> Asked
     if a.refusal != 0 {
         return a;
     }
-    let components = a.components;
-    let edges = components.edges;
-    let sets = components.sets;
-    let refusal = ask_sequence(limits, a.program.atoms, &edges, &sets, q);
+    let n = a.program.atoms;
+    let refusal = ask_sequence(limits, n, &a.components.edges, &a.components.sets, q);
     if refusal != 0 {
         return refused(refusal);
     }
@@ -255,11 +270,10 @@ pub fn body(limits: Limits, s: &[u8], number: usize) -> BodyAnswer
 // Showing a body: its slice of the sheet, empty on a refusal.
 pub fn body_slice(limits: Limits, s: &[u8], number: usize) -> &[u8]
     requires { ⌜ Supported limits ⌝ }
-    ensures { λ r. ⌜ SlicePromise limits number (now (s .entry)) (now r) ⌝ }
+    ensures { λ r. ⌜ SlicePromise limits number (now (s .entry)) (ptr (s .entry)) (now r) (ptr r) ⌝ }
 {
     let b = find_body(limits, s, number);
-    let refusal = b.refusal;
-    if refusal != 0 {
+    if b.refusal != 0 {
         return &s[0..0];
     }
     let start = b.start;
@@ -281,14 +295,13 @@ pub fn components(limits: Limits, s: &[u8], out: &mut [u8]) -> WriteAnswer
     if out.len() < n {
         return WriteAnswer::Refused(10);
     }
-    let components = a.components;
-    let names = components.names;
-    let length = put_names(out, 0, &names, n);
+    let length = put_names(out, 0, &a.components.names, n);
     WriteAnswer::Length(length)
 }
 
 // The header of a sequence of t entries.
 fn put_header(out: &mut [u8], t: usize) -> usize
+    requires { ⌜ 3 ≤ length (now out) ⌝ }
     ensures { λ r. ⌜ Wrote (now (out .entry)) 0 (sequenceHeader t) (now (out .exit)) r ⌝ }
 {
     let a = put(out, 0, 1);
@@ -307,14 +320,12 @@ pub fn default_sequence(limits: Limits, s: &[u8], out: &mut [u8]) -> WriteAnswer
         return WriteAnswer::Refused(refusal);
     }
     let n = a.program.atoms;
-    let components = a.components;
-    let sets = components.sets;
-    let t = blocks_length(&sets, n);
+    let t = blocks_length(&a.components.sets, n);
     if out.len() < t + 3 {
         return WriteAnswer::Refused(10);
     }
     let at = put_header(out, t);
-    let length = put_blocks(out, at, &sets, n);
+    let length = put_blocks(out, at, &a.components.sets, n);
     WriteAnswer::Length(length)
 }
 
@@ -396,9 +407,7 @@ pub fn count(limits: Limits, s: &[u8]) -> CountAnswer
     if refusal != 0 {
         return CountAnswer::Refused(refusal);
     }
-    let components = a.components;
-    let ancestors = components.ancestors;
-    let found = counting::count(a.program, &ancestors);
+    let found = counting::count(a.program, &a.components.ancestors);
     let states = found.states;
     if found.crowded {
         return CountAnswer::Refused(11);

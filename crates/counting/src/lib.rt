@@ -191,16 +191,15 @@ fn returns_of(heads: &[u8; 128], pos: &[u64; 128], k: usize) -> Returns
     Returns { at }
 }
 
-// The number of stable models of a table's program, x being its negated atoms.
-fn count_models(t: ProgramTable, ancestors: &[u64; 64], x: u64) -> u64
-    requires { ⌜ Readable t × Union (t .neg) (t .rules) x × (length (listed x) ≤ 16) ⌝ }
+// The number of stable models of a table's program, x being its negated atoms. Its negative sets are lent, too, and put in order.
+fn count_models(t: ProgramTable, neg: &mut [u64; 128], ancestors: &[u64; 64], x: u64) -> u64
+    requires { ⌜ Readable t × Union (t .neg) (t .rules) x × (length (listed x) ≤ 16) × (now neg ≡ t .neg) × (length (now neg) ≡ 128) ⌝ }
     ensures { λ r. ⌜ r ≡ count (programIn t) ⌝ }
 {
     let mut heads = t.heads;
     let mut pos = t.pos;
-    let mut neg = t.neg;
     let k = t.rules;
-    in_order(&mut heads, &mut pos, &mut neg, ancestors, k);
+    in_order(&mut heads, &mut pos, neg, ancestors, k);
     let returns = returns_of(&heads, &pos, k);
     let back = returns.at;
     let gate: [u64; 128] = [0; 128];
@@ -213,7 +212,7 @@ fn count_models(t: ProgramTable, ancestors: &[u64; 64], x: u64) -> u64
         ins: 0,
         outs: 0,
     };
-    branch(&heads, &pos, &neg, &gate, &back, sizes, d, true)
+    branch(&heads, &pos, neg, &gate, &back, sizes, d, true)
 }
 
 // Whether too many atoms are negated, and if not the number of stable models.
@@ -227,7 +226,7 @@ pub fn count(t: ProgramTable, ancestors: &[u64; 64]) -> Found
     requires { ⌜ Readable t ⌝ }
     ensures { λ r. ⌜ TableCounted t r ⌝ }
 {
-    let neg = t.neg;
+    let mut neg = t.neg;
     let x = negated(&neg, t.rules);
     if 16 < size(x) {
         return Found {
@@ -235,7 +234,7 @@ pub fn count(t: ProgramTable, ancestors: &[u64; 64]) -> Found
             states: 0,
         };
     }
-    let states = count_models(t, ancestors, x);
+    let states = count_models(t, &mut neg, ancestors, x);
     Found {
         crowded: false,
         states,

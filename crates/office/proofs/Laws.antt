@@ -3,10 +3,11 @@ use mathlib.Core.Path.{_≡_}
 use lib.Dec.{lit<, lit≤}
 use Rattle.sheet.specs.declared.Limits.{Limits}
 use Rattle.core.specs.inner.Asked.{Supported}
-use Rattle.core.specs.Demands.{Demand3, DefaultAccepted, TestIsChains}
-use Rattle.core.proofs.Demands.{demand-3}
+use Rattle.core.specs.Calls.{Promised}
+use Rattle.core.specs.Demands.{Demand1, Demand2, Demand3, DefaultAccepted}
+use Rattle.core.proofs.Calls.{demand-1}
 use Rattle.core.proofs.Default.{default-accepted}
-use Rattle.core.proofs.Testing.{test-is-chains}
+use Rattle.core.proofs.Demands.{demand-2, demand-3}
 use Rattle.office.specs.Office.{office}
 
 pub supported : (L : Limits) → L ≡ office → Supported L
@@ -16,10 +17,12 @@ supported L e = rw e (record { atoms = lit≤ tt; records = lit≤ tt; component
 pub office-default-accepted : DefaultAccepted office
 office-default-accepted = default-accepted office (lit≤ tt) (lit< tt)
 
--- At the chain question a sequence passes just when every chain is found in it.
-pub office-test-is-chains : TestIsChains office
-office-test-is-chains = test-is-chains office
+-- The three demands of the office's operations.
+pub office-demand-1 : Demand1 office (Promised office)
+office-demand-1 = demand-1 office
 
--- Demand 3 of the office's operations.
-pub office-demand-3 : Demand3 office
+pub office-demand-2 : Demand2 office (Promised office)
+office-demand-2 = demand-2 office
+
+pub office-demand-3 : Demand3 office (Promised office)
 office-demand-3 = demand-3 office

@@ -22,25 +22,8 @@ use Rattle.core.specs.Outcome.{outcome}
 use Rattle.core.specs.Outputs.{sequenceBytes, defaultOutput, clausesOutput, clauseNumbers}
 use Rattle.core.specs.Questions.{readQuestions, testQuestions}
 use Rattle.core.specs.Promises.{defaultOutcome, testOutcome, clausesOutcome, countOutcome}
-use Rattle.office.specs.Probes.{nothing, noEntries, positiveLoop, oddLoop, evenLoop, emptyConstraint, sheetA, threeEntries, fourEntries, Probes}
+use Rattle.office.specs.Probes.{nothing, noEntries, positiveLoop, oddLoop, evenLoop, emptyConstraint, sheetA, threeEntries, fourEntries, answer, table, ProbesHold}
 
-pub probes : Probes
-unfolding nothing noEntries positiveLoop oddLoop evenLoop emptyConstraint sheetA threeEntries fourEntries flatMap below all any filter times member range outside holds consequences iterate leastModel definite reduct lawful derived isStable empty with states stableModels count verdict edge onward reach sameComponent first component linked extends longer chainsOf chains found passes members block defaultSequence last copied latest usable replaced renamed isKept keptFor variable copiesFrom unfolded negated literals ruleClauses rulesClauses copyClauses copiesClauses constraintClause clauses variables signed clauseWords signedWords clausesOf variablesOf ask _then_ opens measured limited complete kindFits kindPasses rising listFits listsFit sequenceFits recordAt recordsFrom records rulesOf constraintsOf programOf program componentsFit negatedAtoms outcome sequenceBytes defaultOutput clausesOutput clauseNumbers recordQuestions recordsQuestions readQuestions testQuestions defaultOutcome testOutcome clausesOutcome countOutcome
-probes =
-    record {
-      nothing-counts = refl;
-      nothing-clauses = refl;
-      loop-count = refl;
-      loop-state = refl;
-      odd-none = refl;
-      even-split = refl;
-      empty-none = refl;
-      empty-clause = refl;
-      empty-word = refl;
-      a-counts = refl;
-      a-default = refl;
-      a-default-fits = refl;
-      a-refused = refl;
-      a-chain = refl;
-      a-passes = refl;
-    }
+pub probes : ProbesHold
+unfolding table answer nothing noEntries positiveLoop oddLoop evenLoop emptyConstraint sheetA threeEntries fourEntries flatMap below all any filter times member range outside holds consequences iterate leastModel definite reduct lawful derived isStable empty with states stableModels count verdict edge onward reach sameComponent first component linked extends longer chainsOf chains found passes members block defaultSequence last copied latest usable replaced renamed isKept keptFor variable copiesFrom unfolded negated literals ruleClauses rulesClauses copyClauses copiesClauses constraintClause clauses variables signed clauseWords signedWords clausesOf variablesOf ask _then_ opens measured limited complete kindFits kindPasses rising listFits listsFit sequenceFits recordAt recordsFrom records rulesOf constraintsOf programOf program componentsFit negatedAtoms outcome sequenceBytes defaultOutput clausesOutput clauseNumbers recordQuestions recordsQuestions readQuestions testQuestions defaultOutcome testOutcome clausesOutcome countOutcome
+probes = refl

@@ -1,23 +1,19 @@
--- The starred probes of document 01 ("Probes at the limits"): a table of what the definitions behind the office's promises say.
--- A count is answered with its verdict: 0 for none, 1 for clear, 2 for split.
-use mathlib.Core.Bool.{false}
+-- The starred probes of document 01 ("Probes at the limits"): a table of what is asked and what is expected, and that the two agree.
+use mathlib.Core.Bool.{not}
 use mathlib.Core.List.{List, [], _∷_, map}
 use mathlib.Core.Path.{_≡_}
 use Prim.Native.Nat.{ℕ}
-use lib.IntN.{pos as plus}
+use lib.IntN.{ℤ, pos as plus}
 use Rattle.lists.specs.Lists.{filter, range}
 use Rattle.asp.specs.Count.{stableModels}
-use Rattle.unfolding.specs.Chain.{found}
+use Rattle.unfolding.specs.Chain.{chains, found}
+use Rattle.sheet.specs.Format.{atomsByte}
 use Rattle.sheet.specs.Sequence.{entries}
 use Rattle.sheet.specs.Sheet.{program}
-use Rattle.core.specs.Outcome.{refused, answered}
+use Rattle.core.specs.Outcome.{Outcome, refused, answered}
 use Rattle.core.specs.Outputs.{defaultOutput, clausesOutput}
 use Rattle.core.specs.Promises.{defaultOutcome, testOutcome, clausesOutcome, countOutcome}
 use Rattle.office.specs.Office.{office}
-
--- The stable models, each as the list of its atoms below n.
-abbrev pub listed : ℕ → List ℕ → List (List ℕ)
-listed n s = map (λ X. filter X (range 0 n)) (stableModels (program s))
 
 -- No atom and no rule.
 unfoldable pub nothing : List ℕ
@@ -55,20 +51,49 @@ threeEntries = 1 ∷ 0 ∷ 3 ∷ 0 ∷ 1 ∷ 2 ∷ []
 unfoldable pub fourEntries : List ℕ
 fourEntries = 1 ∷ 0 ∷ 4 ∷ 0 ∷ 1 ∷ 0 ∷ 2 ∷ []
 
--- The table.
-pub record Probes : Type 0 where
-  pub nothing-counts : countOutcome office nothing ≡ answered (1 ∷ 1 ∷ [])
-  pub nothing-clauses : clausesOutcome office 0 nothing noEntries ≡ answered (0 ∷ 0 ∷ 0 ∷ [])
-  pub loop-count : countOutcome office positiveLoop ≡ answered (1 ∷ 1 ∷ [])
-  pub loop-state : listed 2 positiveLoop ≡ [] ∷ []
-  pub odd-none : countOutcome office oddLoop ≡ answered (0 ∷ 0 ∷ [])
-  pub even-split : countOutcome office evenLoop ≡ answered (2 ∷ 2 ∷ [])
-  pub empty-none : countOutcome office emptyConstraint ≡ answered (0 ∷ 0 ∷ [])
-  pub empty-clause : clausesOutcome office 1 emptyConstraint noEntries ≡ answered (1 ∷ 0 ∷ 1 ∷ [])
-  pub empty-word : clausesOutput emptyConstraint noEntries ≡ plus 0 ∷ []
-  pub a-counts : countOutcome office sheetA ≡ answered (2 ∷ 2 ∷ [])
-  pub a-default : defaultOutput sheetA ≡ 1 ∷ 0 ∷ 5 ∷ 0 ∷ 1 ∷ 0 ∷ 1 ∷ 2 ∷ []
-  pub a-default-fits : defaultOutcome office 8 sheetA ≡ answered (8 ∷ [])
-  pub a-refused : testOutcome office sheetA threeEntries ≡ refused 9
-  pub a-chain : found (1 ∷ 0 ∷ []) (entries threeEntries) ≡ false
-  pub a-passes : testOutcome office sheetA fourEntries ≡ answered []
+-- What can be asked of a sheet, or of a sheet and a sequence. Where something is written, the room comes first.
+pub data Query : Type 0 where
+  count models : List ℕ → Query
+  default : ℕ → List ℕ → Query
+  test missing : List ℕ → List ℕ → Query
+  clauses : ℕ → List ℕ → List ℕ → Query
+
+-- What is answered: an operation's outcome, with its output where it writes one, or lists of atoms.
+pub data Answer : Type 0 where
+  outcome : Outcome → Answer
+  bytes : Outcome → List ℕ → Answer
+  words : Outcome → List ℤ → Answer
+  atoms : List (List ℕ) → Answer
+
+-- The answers of the definitions behind the office's promises. A count comes with its verdict: 0 for none, 1 for clear, 2 for split.
+unfoldable pub answer : Query → Answer
+answer (count s) = outcome (countOutcome office s)
+-- The stable models, each as the list of its atoms.
+answer (models s) = atoms (map (λ X. filter X (range 0 (atomsByte s))) (stableModels (program s)))
+answer (default room s) = bytes (defaultOutcome office room s) (defaultOutput s)
+answer (test s q) = outcome (testOutcome office s q)
+-- The chains that are not found in the sequence.
+answer (missing s q) = atoms (filter (λ w. not (found w (entries q))) (chains (program s)))
+answer (clauses room s q) = words (clausesOutcome office room s q) (clausesOutput s q)
+
+-- The table: what is asked, and what is expected.
+unfoldable pub table : List (Query × Answer)
+table =
+    (count nothing, outcome (answered (1 ∷ 1 ∷ [])))
+    ∷ (clauses 0 nothing noEntries, words (answered (0 ∷ 0 ∷ 0 ∷ [])) [])
+    ∷ (count positiveLoop, outcome (answered (1 ∷ 1 ∷ [])))
+    ∷ (models positiveLoop, atoms ([] ∷ []))
+    ∷ (count oddLoop, outcome (answered (0 ∷ 0 ∷ [])))
+    ∷ (count evenLoop, outcome (answered (2 ∷ 2 ∷ [])))
+    ∷ (count emptyConstraint, outcome (answered (0 ∷ 0 ∷ [])))
+    ∷ (clauses 1 emptyConstraint noEntries, words (answered (1 ∷ 0 ∷ 1 ∷ [])) (plus 0 ∷ []))
+    ∷ (count sheetA, outcome (answered (2 ∷ 2 ∷ [])))
+    ∷ (default 8 sheetA, bytes (answered (8 ∷ [])) (1 ∷ 0 ∷ 5 ∷ 0 ∷ 1 ∷ 0 ∷ 1 ∷ 2 ∷ []))
+    ∷ (test sheetA threeEntries, outcome (refused 9))
+    ∷ (missing sheetA threeEntries, atoms ((1 ∷ 0 ∷ []) ∷ []))
+    ∷ (test sheetA fourEntries, outcome (answered []))
+    ∷ []
+
+-- The two columns agree: every probe is answered as expected.
+abbrev pub ProbesHold : Type 0
+ProbesHold = map (λ p. answer (p .0)) table ≡ map (λ p. p .1) table

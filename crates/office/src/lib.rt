@@ -7,6 +7,7 @@ use core::ReadAnswer;
 use core::TestAnswer;
 use core::WriteAnswer;
 use sheet::Limits;
+ghost use denote.Ref.{ptr};
 ghost use mathlib.Core.Path.{_≡_};
 ghost use Rattle.core.specs.Promises.{ReadPromise, BodyPromise, SlicePromise, FindPromise, ComponentsPromise, DefaultPromise};
 ghost use Rattle.core.specs.Promises.{TestPromise, UnfoldedPromise, ClausesPromise, CountPromise};
@@ -39,7 +40,7 @@ pub fn body(s: &[u8], number: usize) -> BodyAnswer
 
 // Showing a body: its slice of the sheet, empty on a refusal.
 pub fn body_slice(s: &[u8], number: usize) -> &[u8]
-    ensures { λ r. ⌜ SlicePromise office number (now (s .entry)) (now r) ⌝ }
+    ensures { λ r. ⌜ SlicePromise office number (now (s .entry)) (ptr (s .entry)) (now r) (ptr r) ⌝ }
 {
     core::body_slice(limits(), s, number)
 }

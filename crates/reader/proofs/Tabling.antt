@@ -3,7 +3,7 @@ use mathlib.Core.List.{List, [], _∷_, _++_, append-nil, append-assoc}
 use mathlib.Core.Path.{_≡_, refl, sym, _∙_, ap, ap₂, subst}
 use Prim.Native.Nat.{ℕ, zero, suc, _+_, _-_, _≤_, _<_}
 use native.Mathlib.Omega.{arith}
-use lib.ListN.{length, getD, set, length-set, replicate, length-replicate}
+use lib.ListN.{length, getD, set, length-set}
 use lib.Seq.{getD-set-same, getD-set-other}
 use Rattle.lists.specs.Lists.{range}
 use Rattle.lists.proofs.Tables.{range-grown}
@@ -11,8 +11,7 @@ use Rattle.sheet.specs.Format.{end}
 use Rattle.sheet.specs.Sheet.{recordAt, recordsFrom}
 use Rattle.sheet.proofs.Records.{Checking, checking-start, checking-turn, checking-refused, checking-end, checking-left}
 use Rattle.reader.specs.declared.Entry.{Entry}
-use Rattle.reader.specs.declared.RecordTable.{RecordTable}
-use Rattle.reader.specs.inner.Tabled.{recordOf, recordsAt, recordsIn, EntryRead, RecordsRead}
+use Rattle.reader.specs.inner.Tabled.{recordOf, recordsAt, EntryRead, RecordArrays, RecordsRead}
 
 -- One record more.
 module _ (ks hs ps ns : List ℕ) (j k h p n : ℕ) (lk : j < length ks) (lh : j < length hs) (lp : j < length ps) (ln : j < length ns) where
@@ -24,22 +23,17 @@ module _ (ks hs ps ns : List ℕ) (j k h p n : ℕ) (lk : j < length ks) (lh : j
       (λ i l. let ne : (i ≡ j → ⊥) = λ e. omega arith in rw (getD-set-other ks j i k 0 ne, getD-set-other hs j i h 0 ne, getD-set-other ps j i p 0 ne, getD-set-other ns j i n 0 ne) refl)
       (rw (getD-set-same ks j k 0 lk, getD-set-same hs j h 0 lh, getD-set-same ps j p 0 lp, getD-set-same ns j n 0 ln) refl)
 
+-- The first j records are stored.
 pub record Tabling (n m : ℕ) (s : List ℕ) (j at : ℕ) (ks hs ps ns : List ℕ) : Type 0 where
   pub checking : Checking n s m (m - j) at
   pub few : j ≤ m
   pub list : recordsAt ks hs ps ns 0 j ++ recordsFrom (m - j) s at ≡ recordsFrom m s 5
-  pub kinds : length ks ≡ 128
-  pub heads : length hs ≡ 128
-  pub pos : length ps ≡ 128
-  pub neg : length ns ≡ 128
+  pub long : RecordArrays ks hs ps ns
 
 module _ (n m : ℕ) (s : List ℕ) where
-  pub tabling-start : 5 ≤ length s → Tabling n m s 0 5 (replicate 128 0) (replicate 128 0) (replicate 128 0) (replicate 128 0)
+  pub tabling-start : (ks hs ps ns : List ℕ) → 5 ≤ length s → RecordArrays ks hs ps ns → Tabling n m s 0 5 ks hs ps ns
   unfolding recordsAt range
-  tabling-start l =
-      let e : m - 0 ≡ m = omega arith in
-      let long = length-replicate {A = ℕ} 128 0 in
-      record { checking = rw e (checking-start n s m l); few = omega arith; list = rw e refl; kinds = long; heads = long; pos = long; neg = long }
+  tabling-start ks hs ps ns l long = let e : m - 0 ≡ m = omega arith in record { checking = rw e (checking-start n s m l); few = omega arith; list = rw e refl; long = long }
 
   first : (left at : ℕ) → 0 < left → recordsFrom left s at ≡ recordAt s at ∷ recordsFrom (left - 1) s (end s at)
   unfolding recordsFrom
@@ -51,10 +45,10 @@ module _ (n m : ℕ) (s : List ℕ) where
       pub tabling-turn : m ≤ 128 → r .refusal ≡ 0 → Tabling n m s (j + 1) (r .end) (set ks j (r .kind)) (set hs j (r .head)) (set ps j (r .pos)) (set ns j (r .neg))
       tabling-turn few z =
           let R = E .taken z in
-          let k = T .kinds in
-          let h = T .heads in
-          let p = T .pos in
-          let q = T .neg in
+          let k = T .long .kinds in
+          let h = T .long .heads in
+          let p = T .long .pos in
+          let q = T .long .neg in
           let less : m - j - 1 ≡ m - (j + 1) = omega arith in
           record {
             checking = subst (λ i. Checking n s m i (r .end)) less (checking-turn n s m (m - j) at (r .refusal) (r .end) (T .checking) (omega arith) (E .says) z (R .end));
@@ -63,31 +57,23 @@ module _ (n m : ℕ) (s : List ℕ) where
                 ∙ (append-assoc (recordsAt ks hs ps ns 0 j) _ _
                 ∙ (ap (λ l. recordsAt ks hs ps ns 0 j ++ l) (ap₂ (λ x l. x ∷ l) (R .is) (ap₂ (λ i e. recordsFrom i s e) (sym less) (R .end)) ∙ sym (first (m - j) at (omega arith)))
                 ∙ T .list));
-            kinds = length-set ks j (r .kind) ∙ k;
-            heads = length-set hs j (r .head) ∙ h;
-            pos = length-set ps j (r .pos) ∙ p;
-            neg = length-set ns j (r .neg) ∙ q;
+            long = record { kinds = length-set ks j (r .kind) ∙ k; heads = length-set hs j (r .head) ∙ h; pos = length-set ps j (r .pos) ∙ p; neg = length-set ns j (r .neg) ∙ q };
           }
 
-      pub tabling-refused : (R : RecordTable) → (r .refusal ≡ 0 → ⊥) → R .refusal ≡ r .refusal → RecordsRead n m s R
-      tabling-refused R z e =
-          record { says = e ∙ checking-refused n s m (m - j) at (r .refusal) (T .checking) (omega arith) (E .says) z; table = λ y. absurd (z (sym e ∙ y)) }
+      pub tabling-refused : (r .refusal ≡ 0 → ⊥) → RecordsRead n m s ks hs ps ns (r .refusal)
+      tabling-refused z = record { says = checking-refused n s m (m - j) at (r .refusal) (T .checking) (omega arith) (E .says) z; stored = λ y. absurd (z y) }
 
     module _ (over : m ≤ j) where
-      pub tabling-left : (R : RecordTable) → (at ≡ length s → ⊥) → R .refusal ≡ 4 → RecordsRead n m s R
-      tabling-left R ne e = record { says = e ∙ checking-left n s m (m - j) at (T .checking) (omega arith) ne; table = λ y. absurd (omega arith) }
+      pub tabling-left : (at ≡ length s → ⊥) → RecordsRead n m s ks hs ps ns 4
+      tabling-left ne = record { says = checking-left n s m (m - j) at (T .checking) (omega arith) ne; stored = λ y. absurd (omega arith) }
 
-      pub tabling-end : at ≡ length s → RecordsRead n m s (record { refusal = 0; atoms = n; count = m; kinds = ks; heads = hs; pos = ps; neg = ns })
-      unfolding recordsFrom recordsIn
+      pub tabling-end : at ≡ length s → RecordsRead n m s ks hs ps ns 0
+      unfolding recordsFrom
       tabling-end e =
           let f = T .few in
           let none : m - j ≡ 0 = omega arith in
           let all : j ≡ m = omega arith in
           record {
             says = checking-end n s m (m - j) at (T .checking) (omega arith) e;
-            table = λ _. record {
-              atoms = refl;
-              count = refl;
-              records = ap (recordsAt ks hs ps ns 0) (sym all) ∙ (sym (append-nil (recordsAt ks hs ps ns 0 j)) ∙ (rw none at (T .list)));
-            };
+            stored = λ _. ap (recordsAt ks hs ps ns 0) (sym all) ∙ (sym (append-nil (recordsAt ks hs ps ns 0 j)) ∙ (rw none at (T .list)));
           }

@@ -7,7 +7,7 @@ use sheet::kind_passes;
 ghost use mathlib.Core.Path.{_≡_};
 ghost use Prim.Native.Nat.{_≤_, _<_};
 ghost use Rattle.sheet.specs.inner.Walk.{Complete};
-ghost use Rattle.reader.specs.inner.Tabled.{ListRead, ListsRead, EntryRead, RecordsRead, SheetRead};
+ghost use Rattle.reader.specs.inner.Tabled.{ListRead, ListsRead, EntryRead, HeaderRead, RecordArrays, RecordsRead};
 
 // The set of a list of atoms, where the list passes question 6.
 pub struct Gather {
@@ -104,46 +104,70 @@ fn read_record(s: &[u8], at: usize, n: usize) -> Entry
     read_lists(s, at, n)
 }
 
-// The records of a sheet: the first `count` of each array.
-pub struct RecordTable {
+// What a sheet's first five bytes say: the refusal, or 0 with the numbers of atoms and of records.
+pub struct Header {
     pub refusal: u32,
     pub atoms: usize,
-    pub count: usize,
-    pub kinds: [u8; 128],
-    pub heads: [u8; 128],
-    pub pos: [u64; 128],
-    pub neg: [u64; 128],
+    pub records: usize,
 }
 
-fn no_records(refusal: u32) -> RecordTable
+fn no_header(refusal: u32) -> Header
     ensures { λ r. ⌜ r .refusal ≡ refusal ⌝ }
 {
-    RecordTable {
+    Header {
         refusal,
         atoms: 0,
-        count: 0,
-        kinds: [0; 128],
-        heads: [0; 128],
-        pos: [0; 128],
-        neg: [0; 128],
+        records: 0,
     }
 }
 
-// The m records from byte 5 on; then, does nothing remain?
-fn read_records(s: &[u8], n: usize, m: usize) -> RecordTable
-    requires { do ⌜ (5 ≤ (← ⟦s.len()⟧)) × (n ≤ 64) × (m ≤ 128) ⌝ }
-    ensures { λ r. ⌜ RecordsRead n m (now (s .entry)) r ⌝ }
+// Questions 1 to 3, and the numbers of atoms and of records.
+pub fn read_header(limits: Limits, s: &[u8]) -> Header
+    ensures { λ r. ⌜ HeaderRead limits (now (s .entry)) r ⌝ }
 {
-    let mut kinds = [0u8; 128];
-    let mut heads = [0u8; 128];
-    let mut pos = [0u64; 128];
-    let mut neg = [0u64; 128];
+    if s.len() < 5 {
+        return no_header(1);
+    }
+    if byte_at(s, 0) != 1 {
+        return no_header(1);
+    }
+    if byte_at(s, 1) * 256 + byte_at(s, 2) != s.len() {
+        return no_header(2);
+    }
+    let atoms = byte_at(s, 3);
+    let records = byte_at(s, 4);
+    if limits.atoms < atoms {
+        return no_header(3);
+    }
+    if limits.records < records {
+        return no_header(3);
+    }
+    Header {
+        refusal: 0,
+        atoms,
+        records,
+    }
+}
+
+// Questions 4, 5 and 6 of the m records from byte 5 on, which are stored; then, does nothing remain?
+pub fn read_records(
+    s: &[u8],
+    n: usize,
+    m: usize,
+    kinds: &mut [u8; 128],
+    heads: &mut [u8; 128],
+    pos: &mut [u64; 128],
+    neg: &mut [u64; 128],
+) -> u32
+    requires { do ⌜ (5 ≤ (← ⟦s.len()⟧)) × (n ≤ 64) × (m ≤ 128) × RecordArrays (now kinds) (now heads) (now pos) (now neg) ⌝ }
+    ensures { λ r. ⌜ RecordsRead n m (now (s .entry)) (now (kinds .exit)) (now (heads .exit)) (now (pos .exit)) (now (neg .exit)) r ⌝ }
+{
     let mut at = 5;
     let mut j = 0;
     while j < m {
         let r = read_record(s, at, n);
         if r.refusal != 0 {
-            return no_records(r.refusal);
+            return r.refusal;
         }
         kinds[j] = r.kind;
         heads[j] = r.head;
@@ -153,40 +177,7 @@ fn read_records(s: &[u8], n: usize, m: usize) -> RecordTable
         j += 1;
     }
     if at == s.len() {
-        return RecordTable {
-            refusal: 0,
-            atoms: n,
-            count: m,
-            kinds,
-            heads,
-            pos,
-            neg,
-        };
+        return 0;
     }
-    no_records(4)
-}
-
-// Questions 1 to 6, and the sheet's atoms and records.
-pub fn read_sheet(limits: Limits, s: &[u8]) -> RecordTable
-    requires { ⌜ (limits .atoms ≤ 64) × (limits .records ≤ 128) ⌝ }
-    ensures { λ r. ⌜ SheetRead limits (now (s .entry)) r ⌝ }
-{
-    if s.len() < 5 {
-        return no_records(1);
-    }
-    if byte_at(s, 0) != 1 {
-        return no_records(1);
-    }
-    if byte_at(s, 1) * 256 + byte_at(s, 2) != s.len() {
-        return no_records(2);
-    }
-    let n = byte_at(s, 3);
-    let m = byte_at(s, 4);
-    if limits.atoms < n {
-        return no_records(3);
-    }
-    if limits.records < m {
-        return no_records(3);
-    }
-    read_records(s, n, m)
+    4
 }

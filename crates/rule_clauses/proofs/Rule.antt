@@ -2,7 +2,7 @@
 use mathlib.Core.Bool.{true, false}
 use mathlib.Core.List.{List, [], _∷_, _++_, map, map-map, map-append, flatMap, append-nil, append-assoc}
 use mathlib.Core.Path.{_≡_, refl, sym, _∙_, ap, ap₂, subst}
-use Prim.Native.Nat.{ℕ, _+_, _<_}
+use Prim.Native.Nat.{ℕ, _+_, _≤_, _<_}
 use native.Mathlib.Omega.{arith}
 use lib.IntN.{ℤ, pos}
 use lib.ListN.{length, length-append, getD}
@@ -12,7 +12,7 @@ use Rattle.unfolding.specs.Clauses.{Literal, positive, negative, negated, Claus
 use Rattle.bits.specs.inner.Visited.{listed}
 use Rattle.program.specs.inner.Held.{bodyOf}
 use Rattle.writer.specs.inner.Wrote.{Wrote}
-use Rattle.writer.proofs.Writing.{wrote-append}
+use Rattle.writer.proofs.Writing.{wrote-append, wrote-length}
 use Rattle.copies.specs.inner.Tables.{Values}
 use Rattle.copies.specs.inner.Bodies.{bodyBy}
 use Rattle.copies.proofs.Tables.{listed-last}
@@ -56,12 +56,12 @@ module _ (vars lasts : List ℕ) (pos-set neg-set : ℕ) (F : Values last lasts)
     pairs-size : length (bodyPairsWords vars d pos-set neg-set) ≡ length firsts + length seconds
     pairs-size = ap length pairs-words ∙ length-append firsts seconds
 
-    module _ (at : ℕ) (room : at + length (bodyPairsWords vars d pos-set neg-set) < 4294967296) where
-      pub pairs-first : at + length (pairsWords vars true d pos-set) < 4294967296
+    module _ (old : List ℤ) (at : ℕ) (room : at + length (bodyPairsWords vars d pos-set neg-set) ≤ length old) where
+      pub pairs-first : at + length (pairsWords vars true d pos-set) ≤ length old
       pairs-first = let e = pairs-size in omega arith
 
-      pub pairs-second : (old o₁ : List ℤ) (mid : ℕ) → Wrote old at (pairsWords vars true d pos-set) o₁ mid → mid + length (pairsWords lasts false d neg-set) < 4294967296
-      pairs-second old o₁ mid W = let e = pairs-size in let m = W .moved in omega arith
+      pub pairs-second : (o₁ : List ℤ) (mid : ℕ) → Wrote old at (pairsWords vars true d pos-set) o₁ mid → mid + length (pairsWords lasts false d neg-set) ≤ length o₁
+      pairs-second o₁ mid W = let e = pairs-size in let m = W .moved in let n = wrote-length _ _ _ _ _ W in omega arith
 
     pub pairs-wrote : (old o₁ new : List ℤ) (at mid r : ℕ) → Wrote old at (pairsWords vars true d pos-set) o₁ mid → Wrote o₁ mid (pairsWords lasts false d neg-set) new r
         → Wrote old at (bodyPairsWords vars d pos-set neg-set) new r
@@ -86,18 +86,18 @@ module _ (vars lasts : List ℕ) (pos-set neg-set : ℕ) (F : Values last lasts)
       let h = flipped-size lasts false neg-set in
       omega arith
 
-  module _ (at : ℕ) (room : at + length (backWords vars pos-set neg-set) < 4294967296) where
-    pub back-first : at + length (listed pos-set) < 4294967296
+  module _ (old : List ℤ) (at : ℕ) (room : at + length (backWords vars pos-set neg-set) ≤ length old) where
+    pub back-first : at + length (listed pos-set) ≤ length old
     back-first = let e = back-size in omega arith
 
-    module _ (old o₁ : List ℤ) (mid : ℕ) (W₁ : Wrote old at (flippedWords vars true pos-set) o₁ mid) where
-      pub back-second : mid + length (listed neg-set) < 4294967296
-      back-second = let e = back-size in let m = W₁ .moved in let g = flipped-size vars true pos-set in omega arith
+    module _ (o₁ : List ℤ) (mid : ℕ) (W₁ : Wrote old at (flippedWords vars true pos-set) o₁ mid) where
+      pub back-second : mid + length (listed neg-set) ≤ length o₁
+      back-second = let e = back-size in let m = W₁ .moved in let n = wrote-length _ _ _ _ _ W₁ in let g = flipped-size vars true pos-set in omega arith
 
       module _ (o₂ : List ℤ) (end : ℕ) (W₂ : Wrote o₁ mid (flippedWords lasts false neg-set) o₂ end) where
-        pub back-third : end < 4294967296
+        pub back-third : end < length o₂
         back-third =
-            let e = back-size in let m = W₁ .moved in let m₂ = W₂ .moved in let g = flipped-size vars true pos-set in let h = flipped-size lasts false neg-set in omega arith
+            let e = back-size in let m = W₁ .moved in let m₂ = W₂ .moved in let n = wrote-length _ _ _ _ _ W₁ in let n₂ = wrote-length _ _ _ _ _ W₂ in let g = flipped-size vars true pos-set in let h = flipped-size lasts false neg-set in omega arith
 
         pub back-wrote : (new : List ℤ) (r : ℕ) → Wrote o₂ end (pos 0 ∷ []) new r → Wrote old at (backWords vars pos-set neg-set) new r
         back-wrote new r W₃ = subst (λ ws. Wrote old at ws new r) (sym back-words) (wrote-append _ _ _ _ _ _ _ _ W₁ (wrote-append _ _ _ _ _ _ _ _ W₂ W₃))
@@ -130,21 +130,23 @@ module _ (vars : List ℕ) (h d pos-set neg-set : ℕ) where
   unfolding ruleWords bodyPairsWords backWords
   whole = rule-size h d (bodyBy vars pos-set neg-set)
 
-  module _ (at : ℕ) (room : at + length (ruleWords vars h d pos-set neg-set) < 4294967296) where
-    pub rule-first : at + 3 < 4294967296
+  module _ (old : List ℤ) (at : ℕ) (room : at + length (ruleWords vars h d pos-set neg-set) ≤ length old) where
+    pub rule-first : at + 3 ≤ length old
     rule-first = let e = whole in omega arith
 
-    module _ (old o₁ : List ℤ) (p₁ : ℕ) (W₁ : Wrote old at (clauseWords (literalOf true h ∷ literalOf false d ∷ [])) o₁ p₁) where
-      pub rule-second : p₁ + length (bodyPairsWords vars d pos-set neg-set) < 4294967296
-      rule-second = let e = whole in let m = W₁ .moved in let g = two-size (literalOf true h) (literalOf false d) in omega arith
+    module _ (o₁ : List ℤ) (p₁ : ℕ) (W₁ : Wrote old at (clauseWords (literalOf true h ∷ literalOf false d ∷ [])) o₁ p₁) where
+      pub rule-second : p₁ + length (bodyPairsWords vars d pos-set neg-set) ≤ length o₁
+      rule-second = let e = whole in let n = wrote-length _ _ _ _ _ W₁ in let m = W₁ .moved in let g = two-size (literalOf true h) (literalOf false d) in omega arith
 
       module _ (o₂ : List ℤ) (p₂ : ℕ) (W₂ : Wrote o₁ p₁ (bodyPairsWords vars d pos-set neg-set) o₂ p₂) where
-        pub rule-third : p₂ < 4294967296
-        rule-third = let e = whole in let m = W₁ .moved in let m₂ = W₂ .moved in let g = two-size (literalOf true h) (literalOf false d) in omega arith
+        pub rule-third : p₂ < length o₂
+        rule-third = let e = whole in let n = wrote-length _ _ _ _ _ W₁ in let n₂ = wrote-length _ _ _ _ _ W₂ in let m = W₁ .moved in let m₂ = W₂ .moved in let g = two-size (literalOf true h) (literalOf false d) in omega arith
 
         module _ (o₃ : List ℤ) (p₃ : ℕ) (W₃ : Wrote o₂ p₂ (pos d ∷ []) o₃ p₃) where
-          pub rule-fourth : p₃ + length (backWords vars pos-set neg-set) < 4294967296
-          rule-fourth = let e = whole in let m = W₁ .moved in let m₂ = W₂ .moved in let m₃ = W₃ .moved in let g = two-size (literalOf true h) (literalOf false d) in omega arith
+          pub rule-fourth : p₃ + length (backWords vars pos-set neg-set) ≤ length o₃
+          rule-fourth =
+              let n = wrote-length _ _ _ _ _ W₁ in let n₂ = wrote-length _ _ _ _ _ W₂ in let n₃ = wrote-length _ _ _ _ _ W₃ in
+              let e = whole in let m = W₁ .moved in let m₂ = W₂ .moved in let m₃ = W₃ .moved in let g = two-size (literalOf true h) (literalOf false d) in omega arith
 
           pub rule-wrote : (new : List ℤ) (r : ℕ) → Wrote o₃ p₃ (backWords vars pos-set neg-set) new r → Wrote old at (ruleWords vars h d pos-set neg-set) new r
           unfolding ruleWords bodyPairsWords backWords

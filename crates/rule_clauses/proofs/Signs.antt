@@ -73,8 +73,11 @@ module _ (vars : List ℕ) (plain : Bool) where
     flipped-start = set-start flippedOne old at x
 
     module _ (cur : List ℤ) (next left : ℕ) (S : FlippedLeft old at x cur next left) where
-      pub flipped-room : at + length (listed x) < 4294967296 → next < 4294967296
-      flipped-room h = let e = S .rest .ends in let k = ap length (flipped-are x) ∙ flipped-size x in omega arith
+      pub flipped-room : (a : ℕ) → 0 < left → Lowest left a → at + length (listed x) ≤ length old → next < length cur
+      flipped-room a p L h =
+          let k = ap length (flipped-are x) ∙ flipped-size x in
+          let e = set-room flippedOne old at x cur next left S a p L (let l : at + length (flatMap flippedOne (listed x)) ≤ length old = omega arith in l) in
+          omega arith
 
       pub flipped-turn : (a r : ℕ) → Lowest left a → Rest left r → (new : List ℤ) (behind : ℕ) → Wrote cur next (signed (literalOf (not plain) (getD vars a 0)) ∷ []) new behind
           → FlippedLeft old at x new behind r
@@ -103,9 +106,9 @@ module _ (vars : List ℕ) (plain : Bool) (d : ℕ) where
     pairs-start = set-start pairOne old at x
 
     module _ (cur : List ℤ) (next left : ℕ) (S : PairsLeft old at x cur next left) where
-      pub pairs-room : (a : ℕ) → 0 < left → Lowest left a → at + length (pairsWords vars plain d x) < 4294967296 → next + 3 < 4294967296
+      pub pairs-room : (a : ℕ) → 0 < left → Lowest left a → at + length (pairsWords vars plain d x) ≤ length old → next + 3 ≤ length cur
       pairs-room a p L h =
-          let e = set-room pairOne old at x cur next left S a p L (subst (λ ws. at + length ws < 4294967296) (sym (pairs-are x)) h) in
+          let e = set-room pairOne old at x cur next left S a p L (subst (λ ws. at + length ws ≤ length old) (sym (pairs-are x)) h) in
           let k = two-size (literalOf false d) (literalOf plain (getD vars a 0)) in
           omega arith
 

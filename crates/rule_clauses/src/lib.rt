@@ -4,7 +4,7 @@ use bits::rest;
 use writer::put_negated;
 use writer::put_plain;
 ghost use mathlib.Core.List.{[], _∷_};
-ghost use Prim.Native.Nat.{_+_, _<_};
+ghost use Prim.Native.Nat.{_+_, _≤_, _<_};
 ghost use lib.ListN.{length};
 ghost use Rattle.unfolding.specs.Unfolded.{last};
 ghost use Rattle.unfolding.specs.Clauses.{signed, clauseWords};
@@ -15,7 +15,7 @@ ghost use Rattle.rule_clauses.specs.inner.Literals.{literalOf, pairsWord
 
 // The literal v or -v.
 fn put_literal(out: &mut [i32], at: usize, plain: bool, v: u32) -> usize
-    requires { ⌜ (at < 4294967296) × (v < 2147483648) ⌝ }
+    requires { ⌜ (at < length (now out)) × (v < 2147483648) ⌝ }
     ensures { λ r. ⌜ Wrote (now (out .entry)) at (signed (literalOf plain v) ∷ []) (now (out .exit)) r ⌝ }
 {
     if plain {
@@ -26,7 +26,7 @@ fn put_literal(out: &mut [i32], at: usize, plain: bool, v: u32) -> usize
 
 // A clause of two literals.
 fn put_two(out: &mut [i32], at: usize, x: bool, u: u32, y: bool, v: u32) -> usize
-    requires { ⌜ (at + 3 < 4294967296) × (u < 2147483648) × (v < 2147483648) ⌝ }
+    requires { ⌜ (at + 3 ≤ length (now out)) × (u < 2147483648) × (v < 2147483648) ⌝ }
     ensures { λ r. ⌜ Wrote (now (out .entry)) at (clauseWords (literalOf x u ∷ literalOf y v ∷ [])) (now (out .exit)) r ⌝ }
 {
     let second = put_literal(out, at, x, u);
@@ -36,7 +36,7 @@ fn put_two(out: &mut [i32], at: usize, x: bool, u: u32, y: bool, v: u32) -> usiz
 
 // For each atom of a body's positive or negative set the clause of -d and its literal.
 fn put_pairs(out: &mut [i32], at: usize, d: u32, x: u64, vars: &[u32; 64], plain: bool) -> usize
-    requires { ⌜ SmallVariables (now vars) × (d < 2147483648) × (at + length (pairsWords (now vars) plain d x) < 4294967296) ⌝ }
+    requires { ⌜ SmallVariables (now vars) × (d < 2147483648) × (at + length (pairsWords (now vars) plain d x) ≤ length (now out)) ⌝ }
     ensures { λ r. ⌜ Wrote (now (out .entry)) at (pairsWords (now (vars .entry)) plain d x) (now (out .exit)) r ⌝ }
 {
     let mut next = at;
@@ -50,7 +50,7 @@ fn put_pairs(out: &mut [i32], at: usize, d: u32, x: u64, vars: &[u32; 64], plain
 
 // The literals of a body's positive or negative set, negated.
 fn put_flipped(out: &mut [i32], at: usize, x: u64, vars: &[u32; 64], plain: bool) -> usize
-    requires { ⌜ SmallVariables (now vars) × (at + length (listed x) < 4294967296) ⌝ }
+    requires { ⌜ SmallVariables (now vars) × (at + length (listed x) ≤ length (now out)) ⌝ }
     ensures { λ r. ⌜ Wrote (now (out .entry)) at (flippedWords (now (vars .entry)) plain x) (now (out .exit)) r ⌝ }
 {
     let mut next = at;
@@ -73,7 +73,7 @@ fn put_body_pairs(
     lasts: &[u32; 64],
 ) -> usize
     requires { ⌜ SmallVariables (now vars) × Values last (now lasts) × (d < 2147483648)
-        × (at + length (bodyPairsWords (now vars) d pos neg) < 4294967296) ⌝ }
+        × (at + length (bodyPairsWords (now vars) d pos neg) ≤ length (now out)) ⌝ }
     ensures { λ r. ⌜ Wrote (now (out .entry)) at (bodyPairsWords (now (vars .entry)) d pos neg) (now (out .exit)) r ⌝ }
 {
     let middle = put_pairs(out, at, d, pos, vars, true);
@@ -89,7 +89,7 @@ pub fn put_back(
     vars: &[u32; 64],
     lasts: &[u32; 64],
 ) -> usize
-    requires { ⌜ SmallVariables (now vars) × Values last (now lasts) × (at + length (backWords (now vars) pos neg) < 4294967296) ⌝ }
+    requires { ⌜ SmallVariables (now vars) × Values last (now lasts) × (at + length (backWords (now vars) pos neg) ≤ length (now out)) ⌝ }
     ensures { λ r. ⌜ Wrote (now (out .entry)) at (backWords (now (vars .entry)) pos neg) (now (out .exit)) r ⌝ }
 {
     let middle = put_flipped(out, at, pos, vars, true);
@@ -109,7 +109,7 @@ pub fn put_rule(
     lasts: &[u32; 64],
 ) -> usize
     requires { ⌜ SmallVariables (now vars) × Values last (now lasts) × (h < 2147483648) × (d < 2147483648)
-        × (at + length (ruleWords (now vars) h d pos neg) < 4294967296) ⌝ }
+        × (at + length (ruleWords (now vars) h d pos neg) ≤ length (now out)) ⌝ }
     ensures { λ r. ⌜ Wrote (now (out .entry)) at (ruleWords (now (vars .entry)) h d pos neg) (now (out .exit)) r ⌝ }
 {
     let first = put_two(out, at, true, h, false, d);

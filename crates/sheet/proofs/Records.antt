@@ -182,8 +182,9 @@ module _ (L : Limits) (s : List ℕ) where
       form-records k =
           sym (third ∙ ask-no (rw (lt-leb (recordsByte s) (L .records) (rw (M .is) at k)) (and-false (leb (atomsByte s) (L .atoms)))) 3 _ (λ e. omega arith))
 
-      pub form-rest : n ≤ L .atoms → m ≤ L .records → (q : ℕ) → q ≡ recordsQuestions m n s 5 → q ≡ formQuestions L s
+      pub form-rest : n ≤ L .atoms → m ≤ L .records → formQuestions L s ≡ recordsQuestions m n s 5
       unfolding limited
-      form-rest k j q e =
-          rw (M .is, N .is) at e
-          ∙ sym (third ∙ ask-yes (and-intro (le-leb (atomsByte s) (L .atoms) (rw (N .is) at k)) (le-leb (recordsByte s) (L .records) (rw (M .is) at j))) 3 _)
+      form-rest k j =
+          third
+          ∙ (ask-yes (and-intro (le-leb (atomsByte s) (L .atoms) (rw (N .is) at k)) (le-leb (recordsByte s) (L .records) (rw (M .is) at j))) 3 _
+          ∙ rw (M .is, N .is) refl)

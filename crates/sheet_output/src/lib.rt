@@ -4,7 +4,7 @@ use bits::rest;
 use bits::size;
 use writer::put;
 ghost use mathlib.Core.Path.{_≡_};
-ghost use Prim.Native.Nat.{_+_, _≤_, _<_};
+ghost use Prim.Native.Nat.{_+_, _≤_};
 ghost use lib.ListN.{length};
 ghost use Rattle.bits.specs.inner.Visited.{listed};
 ghost use Rattle.writer.specs.inner.Wrote.{Wrote};
@@ -12,7 +12,7 @@ ghost use Rattle.sheet_output.specs.inner.Names.{nameBytes, blockOf, blo
 
 // The names of the first n atoms.
 pub fn put_names(out: &mut [u8], at: usize, names: &[u8; 64], n: usize) -> usize
-    requires { ⌜ (n ≤ 64) × (at + length (nameBytes (now names) n) < 4294967296) ⌝ }
+    requires { ⌜ (n ≤ 64) × (at + length (nameBytes (now names) n) ≤ length (now out)) ⌝ }
     ensures { λ r. ⌜ Wrote (now (out .entry)) at (nameBytes (now (names .entry)) n) (now (out .exit)) r ⌝ }
 {
     let mut next = at;
@@ -26,7 +26,7 @@ pub fn put_names(out: &mut [u8], at: usize, names: &[u8; 64], n: usize) -> usize
 
 // The atoms of a set, rising.
 fn put_set(out: &mut [u8], at: usize, x: u64) -> usize
-    requires { ⌜ at + length (listed x) < 4294967296 ⌝ }
+    requires { ⌜ at + length (listed x) ≤ length (now out) ⌝ }
     ensures { λ r. ⌜ Wrote (now (out .entry)) at (listed x) (now (out .exit)) r ⌝ }
 {
     let mut next = at;
@@ -41,7 +41,7 @@ fn put_set(out: &mut [u8], at: usize, x: u64) -> usize
 
 // A component's block.
 fn put_block(out: &mut [u8], at: usize, x: u64) -> usize
-    requires { ⌜ at + length (blockOf x) < 4294967296 ⌝ }
+    requires { ⌜ at + length (blockOf x) ≤ length (now out) ⌝ }
     ensures { λ r. ⌜ Wrote (now (out .entry)) at (blockOf x) (now (out .exit)) r ⌝ }
 {
     let mut next = at;
@@ -55,7 +55,7 @@ fn put_block(out: &mut [u8], at: usize, x: u64) -> usize
 
 // The blocks of all components: the entries of the default sequence.
 pub fn put_blocks(out: &mut [u8], at: usize, sets: &[u64; 64], n: usize) -> usize
-    requires { ⌜ (n ≤ 64) × (at + length (blocksOf (now sets) n) < 4294967296) ⌝ }
+    requires { ⌜ (n ≤ 64) × (at + length (blocksOf (now sets) n) ≤ length (now out)) ⌝ }
     ensures { λ r. ⌜ Wrote (now (out .entry)) at (blocksOf (now (sets .entry)) n) (now (out .exit)) r ⌝ }
 {
     let mut next = at;

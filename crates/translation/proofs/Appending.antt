@@ -17,9 +17,8 @@ use Rattle.lists.proofs.Tables.{range-grown}
 use Rattle.asp.specs.Program.{Rule}
 use Rattle.sheet.specs.Sheet.{Record, rulesOf, constraintsOf, programOf}
 use Rattle.program.specs.inner.Held.{ruleOf, rulesAt, bodiesAt, programIn}
-use Rattle.reader.specs.declared.RecordTable.{RecordTable}
-use Rattle.reader.specs.inner.Tabled.{recordOf, recordsAt, recordsIn}
-use Rattle.translation.specs.inner.Translated.{Entries, entries, Long, ofKind, entriesIn, Room, StoredIf, Appended, Translated}
+use Rattle.reader.specs.inner.Tabled.{recordOf, recordsAt}
+use Rattle.translation.specs.inner.Translated.{Records, recordsIn, Entries, entries, Long, ofKind, entriesIn, Room, StoredIf, Appended, Translated}
 
 -- One store.
 module _ (k head p q : ℕ) (heads pos neg : List ℕ) (b : Bool) where
@@ -53,15 +52,15 @@ rules-more hs ps ns k h p q lh lp ln =
     (rw (getD-set-same hs k h 0 lh, getD-set-same ps k p 0 lp, getD-set-same ns k q 0 ln) refl)
 
 -- The loop: the entries, with what is left of the records of the kind behind them, are all that are to stand there.
-pub record Appending (e : Entries) (t : RecordTable) (kind j : ℕ) (hs ps ns : List ℕ) (k : ℕ) : Type 0 where
+pub record Appending (e : Entries) (t : Records) (kind j : ℕ) (hs ps ns : List ℕ) (k : ℕ) : Type 0 where
   pub list : rulesAt hs ps ns 0 k ++ ofKind kind (recordsAt (t .kinds) (t .heads) (t .pos) (t .neg) j (t .count - j)) ≡ entriesIn e ++ ofKind kind (recordsIn t)
   pub heads : length hs ≡ 128
   pub pos : length ps ≡ 128
   pub neg : length ns ≡ 128
 
-module _ (e : Entries) (t : RecordTable) (kind : ℕ) where
+module _ (e : Entries) (t : Records) (kind : ℕ) where
   appending-start : Room e (ofKind kind (recordsIn t)) → Appending e t kind 0 (e .heads) (e .pos) (e .neg) (e .k)
-  unfolding entriesIn recordsIn
+  unfolding entriesIn
   appending-start R = record { list = rw (let z : t .count - 0 ≡ t .count = omega arith in z) refl; heads = R .heads; pos = R .pos; neg = R .neg }
 
   -- The records from j on: that at j, and those behind it.
@@ -156,8 +155,8 @@ kinds-few (r ∷ rs) =
     (λ z. let one : eqb (r .kind) 1 ≡ false = ne-eqb (r .kind) 1 (λ u. let v = eqb-true (r .kind) 0 z in omega arith) in rw (z, one) (omega arith))
     (λ z. by-bool (eqb (r .kind) 1) (λ u. rw (z, u) (omega arith)) (λ u. rw (z, u) (omega arith)))
 
-length-records : (t : RecordTable) → length (recordsIn t) ≡ t .count
-unfolding recordsIn recordsAt
+length-records : (t : Records) → length (recordsIn t) ≡ t .count
+unfolding recordsAt
 length-records t = length-map (range 0 (t .count)) (λ i. recordOf (getD (t .kinds) i 0) (getD (t .heads) i 0) (getD (t .pos) i 0) (getD (t .neg) i 0)) ∙ length-range 0 (t .count)
 
 -- Entries behind entries.
@@ -172,7 +171,7 @@ bodies-rules : (hs ps ns : List ℕ) (j k : ℕ) → bodiesAt ps ns j k ≡ map 
 unfolding bodiesAt rulesAt ruleOf
 bodies-rules hs ps ns j k = sym (map-map (λ (r : Rule). r .body) (λ i. ruleOf (getD hs i 0) (getD ps i 0) (getD ns i 0)) (range j k))
 
-module _ (t : RecordTable) where
+module _ (t : Records) where
   abbrev pub none : Entries
   none = record { k = 0; heads = replicate 128 0; pos = replicate 128 0; neg = replicate 128 0 }
 
@@ -224,30 +223,30 @@ module _ (t : RecordTable) where
       unfolding ofKind rulesOf
       same-rules = refl
 
-      translated : t .count ≤ 128
-          → Translated t (record { atoms = t .atoms; rules = e .k; constraints = a .k - e .k; heads = a .heads; pos = a .pos; neg = a .neg })
+      translated : (n : ℕ) → t .count ≤ 128
+          → Translated n (recordsIn t) (record { atoms = n; rules = e .k; constraints = a .k - e .k; heads = a .heads; pos = a .pos; neg = a .neg })
       unfolding programIn programOf
-      translated l =
-          let n = kinds-few (recordsIn t) in
+      translated n l =
+          let f = kinds-few (recordsIn t) in
           let m = length-records t in
           let k = A .size in
           let i = E .size in
           record {
             atoms = refl;
             few = omega arith;
-            is = ap₂ (λ rs cs. record { atoms = t .atoms; rules = rs; constraints = cs }) (first ∙ same-rules)
+            is = ap₂ (λ rs cs. record { atoms = n; rules = rs; constraints = cs }) (first ∙ same-rules)
                 (bodies-rules (a .heads) (a .pos) (a .neg) (e .k) (a .k - e .k) ∙ (ap (map (λ r. r .body)) second ∙ same-constraints));
           }
 
 -- The two loops: the rules, and behind them the constraints.
-pub record First (t : RecordTable) (j : ℕ) (hs ps ns : List ℕ) (k : ℕ) : Type 0 where
+pub record First (t : Records) (j : ℕ) (hs ps ns : List ℕ) (k : ℕ) : Type 0 where
   pub rest : Appending (none t) t 0 j hs ps ns k
 
-pub record Second (t : RecordTable) (rules : ℕ) (hs ps ns : List ℕ) (j : ℕ) (hs′ ps′ ns′ : List ℕ) (k : ℕ) : Type 0 where
+pub record Second (t : Records) (rules : ℕ) (hs ps ns : List ℕ) (j : ℕ) (hs′ ps′ ns′ : List ℕ) (k : ℕ) : Type 0 where
   pub done : Appended (none t) (ofKind 0 (recordsIn t)) (entries rules hs ps ns)
   pub rest : Appending (entries rules hs ps ns) t 1 j hs′ ps′ ns′ k
 
-module _ (t : RecordTable) (few : t .count ≤ 128) where
+module _ (t : Records) (few : t .count ≤ 128) where
   pub first-start : First t 0 (replicate 128 0) (replicate 128 0) (replicate 128 0) 0
   first-start = record { rest = appending-start (none t) t 0 (room-none t few) }
 
@@ -284,5 +283,5 @@ module _ (t : RecordTable) (few : t .count ≤ 128) where
       pub second-more : rules ≤ k
       second-more = fewer t (entries rules hs ps ns) (S .done) (entries k hs′ ps′ ns′) both-kinds
 
-      pub second-end : Translated t (record { atoms = t .atoms; rules = rules; constraints = k - rules; heads = hs′; pos = ps′; neg = ns′ })
-      second-end = translated t (entries rules hs ps ns) (S .done) (entries k hs′ ps′ ns′) both-kinds few
+      pub second-end : (n : ℕ) → Translated n (recordsIn t) (record { atoms = n; rules = rules; constraints = k - rules; heads = hs′; pos = ps′; neg = ns′ })
+      second-end n = translated t (entries rules hs ps ns) (S .done) (entries k hs′ ps′ ns′) both-kinds n few

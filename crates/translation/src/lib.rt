@@ -1,8 +1,8 @@
 // The program of a sheet, from the table of its records: rules and constraints, in sheet order.
 use bits::wide;
 use program::ProgramTable;
-use reader::RecordTable;
 ghost use Prim.Native.Nat.{_≤_};
+ghost use Rattle.reader.specs.inner.Tabled.{recordsAt};
 ghost use Rattle.translation.specs.inner.Translated.{Long, StoredIf, Translated};
 
 // Stores an entry at k, where b holds; the index that comes next.
@@ -29,49 +29,56 @@ fn store_if(
     k
 }
 
-// The program of a table of records: those of kind 0 are its rules, those of kind 1 its constraints.
-pub fn program_of(t: RecordTable) -> ProgramTable
-    requires { ⌜ t .count ≤ 128 ⌝ }
-    ensures { λ r. ⌜ Translated t r ⌝ }
+// The program of n atoms of the first m records: those of kind 0 are its rules, those of kind 1 its constraints.
+pub fn program_of<'a>(
+    n: usize,
+    m: usize,
+    kinds: &'a [u8; 128],
+    record_heads: &'a [u8; 128],
+    record_pos: &'a [u64; 128],
+    record_neg: &'a [u64; 128],
+) -> ProgramTable
+    requires { ⌜ m ≤ 128 ⌝ }
+    ensures { λ r. ⌜ Translated n
+        (recordsAt (now (kinds .entry)) (now (record_heads .entry)) (now (record_pos .entry)) (now (record_neg .entry)) 0 m) r ⌝ }
 {
-    let m = t.count;
     let mut heads = [0u8; 128];
     let mut pos = [0u64; 128];
     let mut neg = [0u64; 128];
     let mut rules = 0;
     let mut j = 0;
     while j < m {
-        let b = wide(t.kinds[j]) == 0;
+        let b = wide(kinds[j]) == 0;
         rules = store_if(
             &mut heads,
             &mut pos,
             &mut neg,
             rules,
             b,
-            t.heads[j],
-            t.pos[j],
-            t.neg[j],
+            record_heads[j],
+            record_pos[j],
+            record_neg[j],
         );
         j += 1;
     }
     let mut all = rules;
     let mut i = 0;
     while i < m {
-        let b = wide(t.kinds[i]) == 1;
+        let b = wide(kinds[i]) == 1;
         all = store_if(
             &mut heads,
             &mut pos,
             &mut neg,
             all,
             b,
-            t.heads[i],
-            t.pos[i],
-            t.neg[i],
+            record_heads[i],
+            record_pos[i],
+            record_neg[i],
         );
         i += 1;
     }
     ProgramTable {
-        atoms: t.atoms,
+        atoms: n,
         rules,
         constraints: all - rules,
         heads,

@@ -10,8 +10,8 @@ use Rattle.bits.specs.inner.Sets.{Size}
 use Rattle.bits.specs.inner.Visited.{listed, Lowest, Rest}
 use Rattle.program.specs.inner.Held.{bodyOf}
 use Rattle.writer.specs.inner.Wrote.{Wrote}
-use Rattle.writer.proofs.Writing.{wrote-append}
-use Rattle.writer.proofs.Loops.{flatMap-one, flatMap-map, SetLeft, set-start, set-turn, set-length, set-end, RangeLeft, range-start, range-turn, range-room, range-length, range-end}
+use Rattle.writer.proofs.Writing.{wrote-append, wrote-length}
+use Rattle.writer.proofs.Loops.{flatMap-one, flatMap-map, SetLeft, set-start, set-turn, set-room, set-length, set-end, RangeLeft, range-start, range-turn, range-room, range-length, range-end}
 use Rattle.copies.specs.inner.Tables.{Values}
 use Rattle.copies.specs.inner.Bodies.{bodyBy, entryBody, bodiesBy, bodyAtoms}
 use Rattle.copies.specs.inner.Kept.{ListedAt}
@@ -31,8 +31,11 @@ module _ (vars old : List ℕ) (at x : ℕ) where
   set-size = ap length (flatMap-one (λ b. getD vars b 0) (listed x)) ∙ length-map (listed x) (λ b. getD vars b 0)
 
   module _ (cur : List ℕ) (next left : ℕ) (S : VarsLeft vars old at x cur next left) where
-    pub vars-room : at + length (listed x) < 4294967296 → next < 4294967296
-    vars-room h = let e = S .rest .ends in let k = set-size in omega arith
+    pub vars-room : (a : ℕ) → 0 < left → Lowest left a → at + length (listed x) ≤ length old → next < length cur
+    vars-room a p L h =
+        let k = set-size in
+        let e = set-room (λ b. getD vars b 0 ∷ []) old at x cur next left S a p L (let l : at + length (flatMap (λ b. getD vars b 0 ∷ []) (listed x)) ≤ length old = omega arith in l) in
+        omega arith
 
     pub vars-turn : (a r : ℕ) → Lowest left a → Rest left r → (new : List ℕ) (behind : ℕ) → Wrote cur next (getD vars a 0 ∷ []) new behind → VarsLeft vars old at x new behind r
     vars-turn a r L R new behind W = set-turn (λ b. getD vars b 0 ∷ []) old at x cur next left S a r L R new behind W
@@ -93,10 +96,10 @@ module _ (pos neg vars entries old : List ℕ) (at k : ℕ) where
 
   module _ (cur : List ℕ) (next j : ℕ) (L : ListedLeft pos neg vars entries old at k cur next j) where
     module _ (lt : j < k) (i : ℕ) (I : ListedAt entries j i) where
-      pub listed-room : at + length (listedWords pos neg vars entries k) < 4294967296 → next + 2 + bodyAtoms (getD pos i 0) (getD neg i 0) < 4294967296
+      pub listed-room : at + length (listedWords pos neg vars entries k) ≤ length old → next + 2 + bodyAtoms (getD pos i 0) (getD neg i 0) ≤ length cur
       listed-room h =
-          subst (λ x. next + 2 + bodyAtoms (getD pos x 0) (getD neg x 0) < 4294967296) (sym (I .is))
-          (let r = range-room f old at 0 k cur next j L lt (subst (λ ws. at + length ws < 4294967296) (sym listed-are) h) in
+          subst (λ x. next + 2 + bodyAtoms (getD pos x 0) (getD neg x 0) ≤ length cur) (sym (I .is))
+          (let r = range-room f old at 0 k cur next j L lt (subst (λ ws. at + length ws ≤ length old) (sym listed-are) h) in
           let s = body-size vars (getD pos (getD entries j 0) 0) (getD neg (getD entries j 0) 0) in
           omega arith)
 
@@ -123,9 +126,9 @@ module _ (pos neg vars old : List ℕ) (at from to : ℕ) where
 
   module _ (cur : List ℕ) (next j : ℕ) (L : EntriesLeft pos neg vars old at from to cur next j) where
     module _ (lt : j < to) where
-      pub entries-room : at + length (entriesWords pos neg vars from to) < 4294967296 → next + 2 + bodyAtoms (getD pos j 0) (getD neg j 0) < 4294967296
+      pub entries-room : at + length (entriesWords pos neg vars from to) ≤ length old → next + 2 + bodyAtoms (getD pos j 0) (getD neg j 0) ≤ length cur
       entries-room h =
-          let r = range-room (entryWords pos neg vars) old at from to cur next j L lt (subst (λ ws. at + length ws < 4294967296) (sym entries-are) h) in
+          let r = range-room (entryWords pos neg vars) old at from to cur next j L lt (subst (λ ws. at + length ws ≤ length old) (sym entries-are) h) in
           let s = body-size vars (getD pos j 0) (getD neg j 0) in
           omega arith
 
@@ -141,9 +144,9 @@ module _ (pos neg vars old : List ℕ) (at from to : ℕ) where
 -- A copy.
 module _ (pos neg vars : List ℕ) (var : ℕ) (kept : KeptRules) (at : ℕ) where
   module _ (old o₁ o₂ : List ℕ) (second next : ℕ) (W₁ : Wrote old at (var ∷ []) o₁ second) (W₂ : Wrote o₁ second (kept .rules ∷ []) o₂ next) where
-    pub copy-room : at + length (keptWords pos neg vars var kept) < 4294967296 → next + length (listedWords pos neg vars (kept .entries) (kept .rules)) < 4294967296
+    pub copy-room : at + length (keptWords pos neg vars var kept) ≤ length old → next + length (listedWords pos neg vars (kept .entries) (kept .rules)) ≤ length o₂
     unfolding keptWords
-    copy-room h = let m = W₁ .moved in let k = W₂ .moved in omega arith
+    copy-room h = let m = W₁ .moved in let k = W₂ .moved in let n = wrote-length _ _ _ _ _ W₁ in let l = wrote-length _ _ _ _ _ W₂ in omega arith
 
     pub copy-wrote : (new : List ℕ) (r : ℕ) → Wrote o₂ next (listedWords pos neg vars (kept .entries) (kept .rules)) new r → Wrote old at (keptWords pos neg vars var kept) new r
     unfolding keptWords

@@ -8,7 +8,7 @@ use Rattle.unfolding.specs.Unfolded.{Copy, last, bodyWords, copyWords, words}
 use Rattle.bits.specs.inner.Sets.{With}
 use Rattle.program.specs.declared.ProgramTable.{ProgramTable}
 use Rattle.writer.specs.inner.Wrote.{Wrote}
-use Rattle.writer.proofs.Writing.{Left, left-start, left-turn, left-end, left-length, wrote-append}
+use Rattle.writer.proofs.Writing.{Left, left-start, left-turn, left-end, left-length, left-room, wrote-append, wrote-length}
 use Rattle.copies.specs.inner.Tables.{Values, Overlaid}
 use Rattle.copies.specs.inner.Bodies.{bodiesBy}
 use Rattle.copies.specs.inner.Made.{EntryAt, Made}
@@ -18,9 +18,8 @@ use Rattle.copies.specs.declared.EntryCopy.{EntryCopy}
 use Rattle.copies.specs.declared.KeptRules.{KeptRules}
 use Rattle.copies.proofs.Keeping.{bodies-number}
 use Rattle.copies.proofs.Emitting.{Emitting, emitting-start, emitting-end, emitting-entry, emitting-fresh, emitting-here, emitting-turn}
-use Rattle.copies.proofs.Sizes.{copies-number, rules-short, atoms-short, constraints-by-last, constraints-number, constraints-few, constraints-short}
+use Rattle.copies.proofs.Sizes.{copies-number, constraints-by-last, constraints-number}
 use Rattle.unfolded_output.specs.inner.Words.{bodiesWords, listedWords, entriesWords, keptWords, copiesWords}
-use Rattle.unfolded_output.proofs.Sizes.{bodies-size, copies-size}
 
 -- The words of the copies that are left.
 pub record WordsLeft (old : List ℕ) (at : ℕ) (ws cur : List ℕ) (next : ℕ) (copies : List Copy) : Type 0 where
@@ -56,7 +55,7 @@ module _ (t : ProgramTable) (names sets q : List ℕ) (R : Ready t names sets q)
       pub copies-fresh : fresh < 4294967295
       copies-fresh = emitting-fresh t names sets q R i copied latest fresh Rest E within
 
-      module _ (c : EntryCopy) (M : Made q i names sets fresh c) (k : KeptRules) (K : Kept (t .heads) (t .pos) (t .neg) (t .rules) (c .atom) (c .component) copied k)
+      module _ (c : EntryCopy) (M : Made q i names sets fresh c) (k : KeptRules) (K : Kept (t .heads) (t .pos) (t .rules) (c .atom) (c .component) copied k)
           (lasts vars : List ℕ) (F : Values last lasts) (O : Overlaid (c .component) latest lasts vars) where
         abbrev copy : Copy
         copy = record { atom = c .atom; var = c .var; kept = bodiesBy (t .pos) (t .neg) vars (k .entries) (k .rules) }
@@ -69,12 +68,10 @@ module _ (t : ProgramTable) (names sets q : List ℕ) (R : Ready t names sets q)
         step cs =
             ap (λ n. (c .var ∷ n ∷ listedWords (t .pos) (t .neg) vars (k .entries) (k .rules)) ++ flatMap copyWords cs) (bodies-number (t .pos) (t .neg) vars (k .entries) (k .rules))
 
-        pub copies-room : at + length (copiesWords (unfoldedIn t q)) < 4294967296 → next + length (keptWords (t .pos) (t .neg) vars (c .var) k) < 4294967296
+        pub copies-room : at + length (copiesWords (unfoldedIn t q)) ≤ length old → next + length (keptWords (t .pos) (t .neg) vars (c .var) k) ≤ length cur
         copies-room h =
             let S = emitting-here t names sets q R i copied latest fresh Rest E within c M k K lasts vars F O in
-            let e = S .holds .rest .ends in
-            let f = ap length (step (S .copies)) ∙ length-append here (flatMap copyWords (S .copies)) in
-            omega arith
+            left-room old at (total t q old at) cur here _ _ next (S .holds .rest) (step (S .copies)) h
 
         pub copies-turn : (marked : ℕ) → With copied (c .atom) marked → (new : List ℕ) (behind : ℕ) → Wrote cur next (keptWords (t .pos) (t .neg) vars (c .var) k) new behind
             → CopiesWritten t q old at (i + 1) marked (set latest (c .atom) (c .var)) (c .fresh) new behind
@@ -84,45 +81,52 @@ module _ (t : ProgramTable) (names sets q : List ℕ) (R : Ready t names sets q)
 
 -- The whole.
 module _ (t : ProgramTable) (names sets q : List ℕ) (R : Ready t names sets q) where
-  copies-bound : length (copiesWords (unfoldedIn t q)) ≤ 10650880
-  unfolding copiesWords
-  copies-bound =
-      let e = copies-size (unfoldedIn t q .copies) in
-      let f = copies-number t names sets q R in
-      let g = R .short in
-      let h = rules-short t names sets q R in
-      let i = atoms-short t names sets q R in
-      omega arith
-
   constraints-written : (lasts : List ℕ) → Values last lasts → entriesWords (t .pos) (t .neg) lasts (t .rules) (t .rules + t .constraints) ≡ flatMap bodyWords (unfoldedIn t q .constraints)
   unfolding entriesWords bodiesWords
   constraints-written lasts F = ap (flatMap bodyWords) (constraints-by-last t names sets q R lasts F)
 
-  module _ (old o₁ : List ℕ) (first : ℕ) (W₁ : Wrote old 0 ((length q - 3) ∷ []) o₁ first) where
-    pub first-room : first + length (copiesWords (unfoldedIn t q)) < 4294967296
-    first-room = let m = W₁ .moved in let b = copies-bound in omega arith
+  whole-size : (lasts : List ℕ) → Values last lasts
+      → length (words (unfoldedIn t q)) ≡ 1 + length (copiesWords (unfoldedIn t q)) + 1 + length (entriesWords (t .pos) (t .neg) lasts (t .rules) (t .rules + t .constraints))
+  unfolding words copiesWords
+  whole-size lasts L =
+      let e = length-append (flatMap copyWords (unfoldedIn t q .copies)) (length (unfoldedIn t q .constraints) ∷ flatMap bodyWords (unfoldedIn t q .constraints)) in
+      let f = ap length (constraints-written lasts L) in
+      omega arith
 
-    module _ (o₂ : List ℕ) (behind : ℕ) (W₂ : Wrote o₁ first (copiesWords (unfoldedIn t q)) o₂ behind) where
-      pub behind-room : behind < 4294967296
-      behind-room = let m₁ = W₁ .moved in let m₂ = W₂ .moved in let b = copies-bound in omega arith
+  module _ (lasts : List ℕ) (L : Values last lasts) (old : List ℕ) (room : length (words (unfoldedIn t q)) ≤ length old) where
+    pub room-first : 0 < length old
+    room-first = let w = whole-size lasts L in omega arith
 
-      module _ (o₃ : List ℕ) (next : ℕ) (W₃ : Wrote o₂ behind (t .constraints ∷ []) o₃ next) (lasts : List ℕ) (L : Values last lasts) where
-        pub constraints-room : next + length (entriesWords (t .pos) (t .neg) lasts (t .rules) (t .rules + t .constraints)) < 4294967296
-        constraints-room =
+    module _ (o₁ : List ℕ) (first : ℕ) (W₁ : Wrote old 0 ((length q - 3) ∷ []) o₁ first) where
+      pub room-copies : first + length (copiesWords (unfoldedIn t q)) ≤ length o₁
+      room-copies = let w = whole-size lasts L in let m = W₁ .moved in let n = wrote-length _ _ _ _ _ W₁ in omega arith
+
+      module _ (o₂ : List ℕ) (behind : ℕ) (W₂ : Wrote o₁ first (copiesWords (unfoldedIn t q)) o₂ behind) where
+        pub room-behind : behind < length o₂
+        room-behind =
+            let w = whole-size lasts L in
             let m₁ = W₁ .moved in
             let m₂ = W₂ .moved in
-            let m₃ = W₃ .moved in
-            let b = copies-bound in
-            let e = ap length (constraints-written lasts L) in
-            let c = bodies-size (unfoldedIn t q .constraints) in
-            let d = constraints-short t names sets q R in
-            let f = constraints-few t names sets q R in
+            let n₁ = wrote-length _ _ _ _ _ W₁ in
+            let n₂ = wrote-length _ _ _ _ _ W₂ in
             omega arith
 
-        pub words-wrote : (new : List ℕ) (end : ℕ) → Wrote o₃ next (entriesWords (t .pos) (t .neg) lasts (t .rules) (t .rules + t .constraints)) new end → Wrote old 0 (words (unfoldedIn t q)) new end
-        unfolding copiesWords words
-        words-wrote new end W₄ =
-            subst (λ ws. Wrote old 0 ws new end)
-            (ap₂ (λ k ws. k ∷ (flatMap copyWords (unfoldedIn t q .copies) ++ (t .constraints ∷ ws))) (sym (copies-number t names sets q R)) (constraints-written lasts L)
-            ∙ ap (λ k. length (unfoldedIn t q .copies) ∷ (flatMap copyWords (unfoldedIn t q .copies) ++ (k ∷ flatMap bodyWords (unfoldedIn t q .constraints)))) (constraints-number t names sets q R))
-            (wrote-append _ _ _ _ _ _ _ _ W₁ (wrote-append _ _ _ _ _ _ _ _ W₂ (wrote-append _ _ _ _ _ _ _ _ W₃ W₄)))
+        module _ (o₃ : List ℕ) (next : ℕ) (W₃ : Wrote o₂ behind (t .constraints ∷ []) o₃ next) where
+          pub room-constraints : next + length (entriesWords (t .pos) (t .neg) lasts (t .rules) (t .rules + t .constraints)) ≤ length o₃
+          room-constraints =
+              let w = whole-size lasts L in
+              let m₁ = W₁ .moved in
+              let m₂ = W₂ .moved in
+              let m₃ = W₃ .moved in
+              let n₁ = wrote-length _ _ _ _ _ W₁ in
+              let n₂ = wrote-length _ _ _ _ _ W₂ in
+              let n₃ = wrote-length _ _ _ _ _ W₃ in
+              omega arith
+
+          pub words-wrote : (new : List ℕ) (end : ℕ) → Wrote o₃ next (entriesWords (t .pos) (t .neg) lasts (t .rules) (t .rules + t .constraints)) new end → Wrote old 0 (words (unfoldedIn t q)) new end
+          unfolding copiesWords words
+          words-wrote new end W₄ =
+              subst (λ ws. Wrote old 0 ws new end)
+              (ap₂ (λ k ws. k ∷ (flatMap copyWords (unfoldedIn t q .copies) ++ (t .constraints ∷ ws))) (sym (copies-number t names sets q R)) (constraints-written lasts L)
+              ∙ ap (λ k. length (unfoldedIn t q .copies) ∷ (flatMap copyWords (unfoldedIn t q .copies) ++ (k ∷ flatMap bodyWords (unfoldedIn t q .constraints)))) (constraints-number t names sets q R))
+              (wrote-append _ _ _ _ _ _ _ _ W₁ (wrote-append _ _ _ _ _ _ _ _ W₂ (wrote-append _ _ _ _ _ _ _ _ W₃ W₄)))

@@ -27,7 +27,7 @@ ghost use Rattle.unfolded_output.specs.inner.Words.{setBodyWords, listed
 
 // The variables of a set's atoms.
 fn put_set(out: &mut [u32], at: usize, x: u64, vars: &[u32; 64]) -> usize
-    requires { ⌜ at + length (listed x) < 4294967296 ⌝ }
+    requires { ⌜ at + length (listed x) ≤ length (now out) ⌝ }
     ensures { λ r. ⌜ SetWrote (now (out .entry)) at (now (vars .entry)) x (now (out .exit)) r ⌝ }
 {
     let mut next = at;
@@ -48,7 +48,7 @@ fn put_body(
     vars: &[u32; 64],
     lasts: &[u32; 64],
 ) -> usize
-    requires { ⌜ Values last (now lasts) × (at + 2 + bodyAtoms pos neg < 4294967296) ⌝ }
+    requires { ⌜ Values last (now lasts) × (at + 2 + bodyAtoms pos neg ≤ length (now out)) ⌝ }
     ensures { λ r. ⌜ Wrote (now (out .entry)) at (setBodyWords (now (vars .entry)) pos neg) (now (out .exit)) r ⌝ }
 {
     let second = put_word(out, at, size(pos));
@@ -69,7 +69,7 @@ fn put_listed<'a>(
     lasts: &[u32; 64],
 ) -> usize
     requires { ⌜ Values last (now lasts) × Inside (now entries) k
-        × (at + length (listedWords (now pos) (now neg) (now vars) (now entries) k) < 4294967296) ⌝ }
+        × (at + length (listedWords (now pos) (now neg) (now vars) (now entries) k) ≤ length (now out)) ⌝ }
     ensures { λ r. ⌜ Wrote (now (out .entry)) at
         (listedWords (now (pos .entry)) (now (neg .entry)) (now (vars .entry)) (now (entries .entry)) k) (now (out .exit)) r ⌝ }
 {
@@ -95,7 +95,7 @@ fn put_copy<'a>(
     lasts: &[u32; 64],
 ) -> usize
     requires { ⌜ Values last (now lasts) × Inside (kept .entries) (kept .rules)
-        × (at + length (keptWords (now pos) (now neg) (now vars) var kept) < 4294967296) ⌝ }
+        × (at + length (keptWords (now pos) (now neg) (now vars) var kept) ≤ length (now out)) ⌝ }
     ensures { λ r. ⌜ Wrote (now (out .entry)) at
         (keptWords (now (pos .entry)) (now (neg .entry)) (now (vars .entry)) var kept) (now (out .exit)) r ⌝ }
 {
@@ -116,7 +116,7 @@ fn put_copies(
     lasts: &[u32; 64],
 ) -> usize
     requires { ⌜ Ready t (now names) (now sets) (now q) × Values last (now lasts)
-        × (at + length (copiesWords (unfoldedIn t (now q))) < 4294967296) ⌝ }
+        × (at + length (copiesWords (unfoldedIn t (now q))) ≤ length (now out)) ⌝ }
     ensures { λ r. ⌜ Wrote (now (out .entry)) at (copiesWords (unfoldedIn t (now (q .entry)))) (now (out .exit)) r ⌝ }
 {
     let rules = t.rules;
@@ -130,7 +130,7 @@ fn put_copies(
     while i < q.len() {
         let copy = copy_at(q, i, names, sets, &places, fresh);
         let a = copy.atom;
-        let kept = kept_rules(&t.heads, &t.pos, &t.neg, rules, a, copy.component, copied);
+        let kept = kept_rules(&t.heads, &t.pos, rules, a, copy.component, copied);
         let mut vars = *lasts;
         overlay(&mut vars, &latest, copy.component);
         next = put_copy(out, next, copy.var, kept, &t.pos, &t.neg, &vars, lasts);
@@ -153,7 +153,7 @@ fn put_entries<'a>(
     lasts: &[u32; 64],
 ) -> usize
     requires { ⌜ Values last (now lasts) × (to ≤ 128)
-        × (at + length (entriesWords (now pos) (now neg) (now lasts) from to) < 4294967296) ⌝ }
+        × (at + length (entriesWords (now pos) (now neg) (now lasts) from to) ≤ length (now out)) ⌝ }
     ensures { λ r. ⌜ Wrote (now (out .entry)) at
         (entriesWords (now (pos .entry)) (now (neg .entry)) (now (lasts .entry)) from to) (now (out .exit)) r ⌝ }
 {
@@ -174,7 +174,7 @@ pub fn put_unfolded(
     names: &[u8; 64],
     sets: &[u64; 64],
 ) -> usize
-    requires { ⌜ Ready t (now names) (now sets) (now q) ⌝ }
+    requires { ⌜ Ready t (now names) (now sets) (now q) × (length (words (unfoldedIn t (now q))) ≤ length (now out)) ⌝ }
     ensures { λ r. ⌜ Wrote (now (out .entry)) 0 (words (unfoldedIn t (now (q .entry)))) (now (out .exit)) r ⌝ }
 {
     let from = t.rules;

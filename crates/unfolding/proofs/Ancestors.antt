@@ -18,7 +18,7 @@ pub ancestors : Program → ℕ → ℕ
 ancestors P a = length (filter (λ b. reach P b a) (range 0 (P .atoms)))
 
 module _ (P : Program) (wf : wellFormed P ≡ true) where
-  in-range : (b : ℕ) → List·Memᴰ b (range 0 (P .atoms)) → b < P .atoms
+  pub in-range : (b : ℕ) → List·Memᴰ b (range 0 (P .atoms)) → b < P .atoms
   in-range b m = let r = range-out 0 (P .atoms) b m in omega (arith, r .high)
 
   fewer : (a b : ℕ) → reach P a b ≡ true → ancestors P a ≤ ancestors P b

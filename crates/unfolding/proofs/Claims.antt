@@ -1,12 +1,19 @@
 -- The proof of each claim.
-use Rattle.unfolding.specs.Claims.{EveryAtomInOne, NamedBySmallest, ChainsAreListed, TestIsPasses, DefaultPasses, UnfoldedHasNoLoop, WordsAreUnfolded, WordsHaveNoLoop, ClausesAreFaithful, LiteralsAreNumbered, WordsAreClauses}
-use Rattle.unfolding.proofs.Reach.{same-refl, component-of, component-only, component-shared, component-smallest}
+use Rattle.unfolding.specs.Claims.{ReachIsLeast, EveryAtomInOne, NamedBySmallest, ChainsAreListed, TestIsPasses, DefaultPasses, UnfoldedHasNoLoop, WordsAreUnfolded, WordsHaveNoLoop, ClausesAreFaithful, LiteralsAreNumbered, WordsAreClauses}
+use Rattle.unfolding.proofs.Reach.{reach-induction, reach-refl, reach-edge, same-refl, component-of, component-only, component-shared, component-smallest}
 use Rattle.unfolding.proofs.Chains.{chains-in, chains-out, passes-iff}
 use Rattle.unfolding.proofs.Default.{default-passes}
 use Rattle.unfolding.specs.Unfolded.{unfolded}
 use Rattle.unfolding.proofs.NoLoop.{no-positive-loop}
 use Rattle.unfolding.proofs.Decoding.{words-unfolded, words-no-loop}
 use Rattle.unfolding.proofs.Theorem.{faithful, literals-numbered, words-clauses}
+
+pub reach-is-least : ReachIsLeast
+reach-is-least P w =
+    record {
+      along = record { reflexive = reach-refl P w; closed = λ a b c l. reach-edge P w a l b c };
+      least = λ R A a b l. reach-induction P w a l (R a) (A .reflexive a l) (λ c d _ r e. A .closed a c d l r e) b;
+    }
 
 pub every-atom-in-one : EveryAtomInOne
 every-atom-in-one P w a l = record { own = component-of P w a l; holds-it = same-refl P w a l; only = λ C K c. component-only P w C K a c }

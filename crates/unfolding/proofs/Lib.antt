@@ -15,4 +15,3 @@ pub mod Theorem
 pub mod NoLoop
 pub mod Decoding
 pub mod Claims
-pub mod Examples

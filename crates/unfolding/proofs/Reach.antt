@@ -1,18 +1,18 @@
--- Reach is reflexive, transitive and goes along edges; every atom is in just one component.
-use mathlib.Core.Bool.{Bool, true, _&&_}
+-- Reach is the least relation that is reflexive and closed under edges, and transitive; every atom is in just one component.
+use mathlib.Core.Bool.{Bool, true, _&&_, false≢true}
 use mathlib.Core.List.{List, [], _∷_, List·Memᴰ, List·Memᴰ·not-nil, List·Memᴰ·cases-cons}
 use mathlib.Core.Logic.{⊎-elim}
 use mathlib.Core.Path.{_≡_, refl, sym, _∙_, ap, subst, fun-ext}
 use Prim.Native.Nat.{ℕ, zero, suc, _+_, _≤_, _<_}
 use native.Mathlib.Nat.{le-antisymm}
 use native.Mathlib.Omega.{arith}
-use borrow.Author.Tests.{eqb-true, eq-eqb, ltb-true, lt-ltb}
-use lib.Dec.{eqb, ltb}
+use borrow.Author.Tests.{eqb-true, eq-eqb}
+use lib.Dec.{eqb}
 use Rattle.lists.specs.Lists.{all, any, member, range}
 use Rattle.lists.proofs.Bools.{by-bool, true-false, bool-ext, and-intro, and-left, and-right, or-cases, or-left, or-right}
 use Rattle.lists.proofs.Members.{any-at, any-intro, member-in, range-in, range-out}
 use Rattle.asp.specs.Program.{Rule, Program, State, wellFormed}
-use Rattle.asp.specs.LeastModel.{Inside}
+use Rattle.asp.specs.LeastModel.{iterate}
 use Rattle.asp.specs.Least.{Least}
 use Rattle.asp.proofs.Rounds.{iterate-least}
 use Rattle.asp.proofs.Derived.{head-below}
@@ -63,21 +63,28 @@ module _ (P : Program) (w : wellFormed P ≡ true) where
         })
 
     -- Whatever holds of the start, and of an edge's end with its beginning, holds of all that is reached.
-    pub reach-induction : (Y : State) → Y start ≡ true → ((b a : ℕ) → b < P .atoms → Y b ≡ true → edge P b a ≡ true → Y a ≡ true) → Inside (reach P start) Y
-    reach-induction Y s h =
-        reach-least .least Y (λ a e. onward-cases Y a e (λ q. subst (λ x. Y x ≡ true) q s) (λ b l y k. h b a l y k))
+    module _ (Y : ℕ → Type 0) (s : Y start) (h : (b a : ℕ) → b < P .atoms → Y b → edge P b a ≡ true → Y a) where
+      rounds-induction : (k a : ℕ) → iterate (onward P start) k a ≡ true → Y a
+      unfolding iterate
+      rounds-induction zero a e = absurd (false≢true e)
+      rounds-induction (suc k) a e =
+          onward-cases (iterate (onward P start) k) a e (λ q. subst Y q s) (λ b l x t. h b a l (rounds-induction k b x) t)
+
+      pub reach-induction : (a : ℕ) → reach P start a ≡ true → Y a
+      unfolding reach
+      reach-induction = rounds-induction (P .atoms)
 
     pub reach-refl : reach P start start ≡ true
     reach-refl = reach-least .closed start (onward-start (reach P start) start refl)
 
     pub reach-below : (a : ℕ) → reach P start a ≡ true → a < P .atoms
-    reach-below a e = ltb-true a (P .atoms) (reach-induction (λ x. ltb x (P .atoms)) (lt-ltb start (P .atoms) low) (λ b c l y k. lt-ltb c (P .atoms) (edge-below b c k)) a e)
+    reach-below = reach-induction (λ x. x < P .atoms) low (λ b c _ _ k. edge-below b c k)
 
     pub reach-edge : (b a : ℕ) → reach P start b ≡ true → edge P b a ≡ true → reach P start a ≡ true
     reach-edge b a r k = reach-least .closed a (onward-edge (reach P start) b a (reach-below b r) r k)
 
   pub reach-trans : (a b c : ℕ) → a < P .atoms → reach P a b ≡ true → reach P b c ≡ true → reach P a c ≡ true
-  reach-trans a b c l r q = reach-induction b (reach-below a l b r) (reach P a) r (λ d e _ y k. reach-edge a l d e y k) c q
+  reach-trans a b c l r q = reach-induction b (reach-below a l b r) (λ x. reach P a x ≡ true) r (λ d e _ y k. reach-edge a l d e y k) c q
 
   -- Atoms of one component.
   pub same-in : (a b : ℕ) → reach P a b ≡ true → reach P b a ≡ true → sameComponent P a b ≡ true

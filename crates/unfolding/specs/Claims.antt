@@ -6,7 +6,7 @@ use mathlib.Core.Path.{_≡_}
 use Prim.Native.Nat.{ℕ, _≤_, _<_}
 use Rattle.lists.specs.Lists.{below}
 use Rattle.asp.specs.Program.{Program, State, wellFormed}
-use Rattle.unfolding.specs.Graph.{sameComponent, component}
+use Rattle.unfolding.specs.Graph.{edge, reach, sameComponent, component}
 use Rattle.unfolding.specs.Component.{Component}
 use Rattle.unfolding.specs.Chain.{Chain, Passes, chains, passes}
 use Rattle.unfolding.specs.Default.{defaultSequence}
@@ -14,6 +14,19 @@ use Rattle.unfolding.specs.Unfolded.{NoPositiveLoop, unfolded, words}
 use Rattle.unfolding.specs.Decoded.{readUnfolded, nameless}
 use Rattle.unfolding.specs.Clauses.{Literal, Clause, variableOf, signedWords, readWords}
 use Rattle.unfolding.specs.Faithful.{clausesOf, variablesOf, Faithful}
+
+-- The relation is reflexive and closed under edges, for every start a among the atoms.
+pub record AlongEdges (P : Program) (R : ℕ → ℕ → Type 0) : Type 0 where
+  pub reflexive : (a : ℕ) → a < P .atoms → R a a
+  pub closed : (a b c : ℕ) → a < P .atoms → R a b → edge P b c ≡ true → R a c
+
+-- Reach is such a relation, and lies in every other.
+pub record LeastAlongEdges (P : Program) : Type 1 where
+  pub along : AlongEdges P (λ a b. reach P a b ≡ true)
+  pub least : (R : ℕ → ℕ → Type 0) → AlongEdges P R → (a b : ℕ) → a < P .atoms → reach P a b ≡ true → R a b
+
+abbrev pub ReachIsLeast : Type 1
+ReachIsLeast = (P : Program) → wellFormed P ≡ true → LeastAlongEdges P
 
 -- Every atom is in just one component.
 pub record OneComponent (P : Program) (a : ℕ) : Type 0 where

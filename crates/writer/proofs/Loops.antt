@@ -4,13 +4,13 @@ use mathlib.Core.Path.{_≡_, refl, _∙_, ap}
 use Prim.Native.Nat.{ℕ, _+_, _-_, _≤_, _<_}
 use native.Mathlib.Omega.{arith}
 use lib.Bits.{bitAnd}
-use lib.ListN.{length, length-append}
+use lib.ListN.{length}
 use Rattle.lists.specs.Lists.{range}
 use Rattle.lists.proofs.Members.{range-left, range-over}
 use Rattle.bits.specs.inner.Visited.{listed, Lowest, Rest}
 use Rattle.bits.proofs.Visiting.{listed-lowest, listed-none, rest-is}
 use Rattle.writer.specs.inner.Wrote.{Wrote}
-use Rattle.writer.proofs.Writing.{Left, left-start, left-turn, left-length, left-end}
+use Rattle.writer.proofs.Writing.{Left, left-start, left-turn, left-length, left-room, left-end}
 
 -- One element for each number.
 pub flatMap-one : {A B : Type 0} (g : A → B) (l : List A) → flatMap (λ b. g b ∷ []) l ≡ map g l
@@ -49,12 +49,10 @@ module _ {A : Type 0} (f : ℕ → List A) (old : List A) (at x : ℕ) where
       pub set-turn : (new : List A) (behind : ℕ) → Wrote cur next (f a) new behind → SetLeft f old at x new behind r
       set-turn new behind W = record { rest = left-turn old at (setWords f x) cur new (f a) _ _ next behind (S .rest) step W }
 
-    pub set-room : (a : ℕ) → 0 < left → Lowest left a → at + length (setWords f x) < 4294967296 → next + length (f a) < 4294967296
+    pub set-room : (a : ℕ) → 0 < left → Lowest left a → at + length (setWords f x) ≤ length old → next + length (f a) ≤ length cur
     set-room a p L h =
         let r = bitAnd left (left - 1) in
-        let e = S .rest .ends in
-        let k = ap length (step a r L (rest-is left p)) ∙ length-append (f a) (setWords f r) in
-        omega arith
+        left-room old at (setWords f x) cur (f a) _ (setWords f r) next (S .rest) (step a r L (rest-is left p)) h
 
     pub set-length : length cur ≡ length old
     set-length = left-length old at (setWords f x) cur _ next (S .rest)
@@ -79,8 +77,8 @@ module _ {A : Type 0} (f : ℕ → List A) (old : List A) (at from to : ℕ) whe
       pub range-turn : (new : List A) (behind : ℕ) → Wrote cur next (f j) new behind → RangeLeft f old at from to new behind (j + 1)
       range-turn new behind W = record { rest = left-turn old at rangeWords cur new (f j) _ _ next behind (L .rest) range-step W }
 
-      pub range-room : at + length rangeWords < 4294967296 → next + length (f j) < 4294967296
-      range-room h = let e = L .rest .ends in let k = ap length range-step ∙ length-append (f j) (flatMap f (range (j + 1) (to - (j + 1)))) in omega arith
+      pub range-room : at + length rangeWords ≤ length old → next + length (f j) ≤ length cur
+      range-room h = left-room old at rangeWords cur (f j) _ _ next (L .rest) range-step h
 
     pub range-length : length cur ≡ length old
     range-length = left-length old at rangeWords cur _ next (L .rest)

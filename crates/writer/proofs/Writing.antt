@@ -1,20 +1,20 @@
 -- Laws of writers and of loops over them.
 use mathlib.Core.List.{List, [], _∷_, _++_, append-nil, append-assoc}
 use mathlib.Core.Path.{_≡_, refl, sym, _∙_, ap, subst}
-use Prim.Native.Nat.{ℕ, suc, _+_, _≤_, _<_}
+use Prim.Native.Nat.{ℕ, suc, _+_, _≤_}
 use native.Mathlib.Nat.{add-zero, zero-add}
 use native.Mathlib.Omega.{arith}
 use lib.ListN.{length, length-append, drop, set}
-use lib.Seq.{sets, set-out, length-sets, sets-eq}
+use lib.Seq.{sets, length-sets, sets-eq}
 use Rattle.writer.specs.inner.Wrote.{Wrote}
 
 module _ {A : Type 0} where
   pub wrote-one : (old : List A) (at : ℕ) (w : A) → Wrote old at (w ∷ []) (set old at w) (at + 1)
   wrote-one old at w = record { stored = refl; moved = refl }
 
-  -- Past the end a store does nothing.
-  pub wrote-past : (old : List A) (at : ℕ) (w : A) → length old ≤ at → Wrote old at (w ∷ []) old (at + 1)
-  wrote-past old at w l = record { stored = sym (set-out old at w l); moved = refl }
+  -- The buffer keeps its length.
+  pub wrote-length : (old : List A) (at : ℕ) (ws new : List A) (next : ℕ) → Wrote old at ws new next → length new ≡ length old
+  wrote-length old at ws new next W = ap length (W .stored) ∙ length-sets old at ws
 
   sets-append : (xs ys old : List A) (at : ℕ) → sets old at (xs ++ ys) ≡ sets (sets old at xs) (at + length xs) ys
   sets-append [] ys old at = ap (λ k. sets old k ys) (sym (add-zero at))
@@ -52,13 +52,12 @@ module _ {A : Type 0} (old : List A) (at : ℕ) (ws : List A) where
         ends = omega arith;
       }
 
-  -- There is room for what comes next where there is room for all.
-  pub left-room : (cur xs rest less : List A) (next : ℕ) → Left old at ws cur next rest → rest ≡ xs ++ less → at + length ws < 4294967296 → next + length xs < 4294967296
-  left-room cur xs rest less next L e h = let f = L .ends in let k = ap length e ∙ length-append xs less in omega arith
-
-  -- The buffer keeps its length.
   pub left-length : (cur rest : List A) (next : ℕ) → Left old at ws cur next rest → length cur ≡ length old
-  left-length cur rest next L = ap length (L .so-far .stored) ∙ length-sets old at (L .done)
+  left-length cur rest next L = wrote-length old at (L .done) cur next (L .so-far)
+
+  -- There is room for what comes next where there is room for all.
+  pub left-room : (cur xs rest less : List A) (next : ℕ) → Left old at ws cur next rest → rest ≡ xs ++ less → at + length ws ≤ length old → next + length xs ≤ length cur
+  left-room cur xs rest less next L e h = let f = L .ends in let n = left-length cur rest next L in let k = ap length e ∙ length-append xs less in omega arith
 
   pub left-end : (cur rest : List A) (next : ℕ) → Left old at ws cur next rest → rest ≡ [] → Wrote old at ws cur next
   left-end cur rest next L e = subst (λ l. Wrote old at l cur next) (sym (append-nil (L .done)) ∙ (ap (λ l. L .done ++ l) (sym e) ∙ L .split)) (L .so-far)

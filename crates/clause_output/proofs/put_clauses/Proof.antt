@@ -1,5 +1,5 @@
 -- `clause_output::put_clauses` meets its contract, one law for each way through it.
-use Rattle.clause_output.proofs.Whole.{all-room, all-wrote}
+use Rattle.clause_output.proofs.Whole.{all-first, all-second, all-wrote}
 use borrow.Author.Needs.{needs}
 use Rattle.clause_output.proofs.put_clauses.Statement.{statement}
 use Rattle.clause_output.proofs.put_clauses.Tie as tie
@@ -8,13 +8,13 @@ last-copies-requires : tie.Need-last-copies-requires
 last-copies-requires c κs = search needs
 
 put-copies-requires : tie.Need-put-copies-requires
-put-copies-requires c κs = search needs
+put-copies-requires c κs = (search needs, search needs, search (needs, all-first))
 
 add-put-backs : tie.Need-add-put-backs
 add-put-backs c = search needs
 
 put-backs-requires : tie.Need-put-backs-requires
-put-backs-requires c κs = (search needs, search needs, search (needs, all-room))
+put-backs-requires c κs = (search needs, search needs, search (needs, all-second))
 
 same-length : tie.Need-same-length
 same-length c = search needs

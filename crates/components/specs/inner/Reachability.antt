@@ -5,11 +5,13 @@ use mathlib.Core.Path.{_≡_}
 use Prim.Native.Nat.{ℕ, zero, suc, _≤_, _<_}
 use lib.Dec.{eqb, ltb, leb}
 use lib.ListN.{length, getD}
-use Rattle.lists.specs.Lists.{all, filter, member, range}
+use Rattle.lists.specs.Lists.{all, any, filter, member, range}
 use Rattle.asp.specs.Program.{Program}
 use Rattle.unfolding.specs.Graph.{edge, first, component}
 use Rattle.bits.specs.inner.Sets.{has}
 use Rattle.bits.specs.inner.Visited.{listed}
+use Rattle.program.specs.declared.ProgramTable.{ProgramTable}
+use Rattle.program.specs.inner.Held.{programIn, Readable}
 use Rattle.components.specs.declared.Components.{Components}
 
 -- A relation between atoms.
@@ -33,6 +35,18 @@ pub record Holds (n : ℕ) (R : Relation) (rows : List ℕ) : Type 0 where
 -- The edges of the program, each in the row of the atom that it leads to.
 abbrev pub EdgesOf : Program → List ℕ → Type 0
 EdgesOf P rows = Holds (P .atoms) (λ a b. edge P b a) rows
+
+-- The heads of the first so many rules have rows.
+pub record HeadsLow (rules : ℕ) (heads : List ℕ) : Type 0 where
+  pub low : (j : ℕ) → j < rules → getD heads j 0 < 64
+
+-- One of k rules, from the j-th on, has the head a and the positive atom b.
+unfoldable pub leadsAt : List ℕ → List ℕ → ℕ → ℕ → Relation
+leadsAt heads pos j k a b = any (λ i. eqb (getD heads i 0) a && member b (listed (getD pos i 0))) (range j k)
+
+-- The edges of the first so many rules.
+abbrev pub EdgesAt : List ℕ → List ℕ → ℕ → List ℕ → Type 0
+EdgesAt heads pos rules rows = Holds 64 (leadsAt heads pos 0 rules) rows
 
 -- A row with the atoms of a set.
 pub record Linked (row x r : ℕ) : Type 0 where
@@ -65,6 +79,10 @@ pub record NamedBy (n : ℕ) (rows names : List ℕ) : Type 0 where
   pub long : length names ≡ 64
   pub name : (a : ℕ) → a < n → NameOf rows a (getD names a 0)
 
+-- The names of the first n atoms have sets.
+pub record NamesLow (n : ℕ) (names : List ℕ) : Type 0 where
+  pub low : (a : ℕ) → a < n → getD names a 0 < 64
+
 -- The names of the components of a program's atoms.
 pub record NamesOf (P : Program) (names : List ℕ) : Type 0 where
   pub long : length names ≡ 64
@@ -91,3 +109,7 @@ pub record ComponentsOf (P : Program) (r : Components) : Type 0 where
   pub edges : EdgesOf P (r .edges)
   pub named : NamesOf P (r .names)
   pub grouped : SetsOf (r .names) (P .atoms) (r .sets)
+
+-- The graph of every program of n atoms whose rules have these heads and positive atoms.
+pub record GraphOf (n rules : ℕ) (heads pos : List ℕ) (r : Components) : Type 0 where
+  pub is : (t : ProgramTable) → Readable t → t .atoms ≡ n → t .rules ≡ rules → t .heads ≡ heads → t .pos ≡ pos → ComponentsOf (programIn t) r

@@ -1,68 +1,64 @@
--- `copies::kept_rules` meets its contract, one law for each way through it.
 use borrow.Author.Needs.{needs}
-use Rattle.copies.proofs.Keeping.{Keeping, keeping-start, keeping-turn, keeping-end}
 use Prim.Native.Nat.{_-_}
+use Rattle.copies.proofs.Keeping.{Keeping, keeping-start, keeping-turn, keeping-end}
 use Rattle.copies.proofs.kept_rules.Statement.{statement}
 use Rattle.copies.proofs.kept_rules.Tie as tie
+use Rattle.copies.proofs.kept_rules.Reads as reads
+use Rattle.copies.proofs.kept_rules.Lts as lts
+use Rattle.copies.proofs.add_if.Reads as add-if-reads
+use Rattle.copies.proofs.is_kept.Reads as is-kept-reads
 
 abbrev Inv-loop : tie.InvT-loop
-Inv-loop heads pos neg rules a component copied entries₀ kept₀ atoms₀ j₀ entries kept atoms j = Keeping heads pos neg rules a component copied j entries kept atoms
+Inv-loop heads pos rules a component copied entries₀ kept₀ j₀ entries kept j = Keeping heads pos rules a component copied j entries kept
 
 abbrev μ-loop : tie.MeasureT-loop
-μ-loop heads pos neg rules a component copied entries₀ kept₀ atoms₀ j₀ entries kept atoms j = rules - j
+μ-loop heads pos rules a component copied entries₀ kept₀ j₀ entries kept j = rules - j
 
+-- src/lib.rt:188:5
 loop-holds : tie.Need-loop-holds Inv-loop μ-loop
 loop-holds c = search (needs, keeping-start)
 
+-- src/lib.rt:189:28
 element-copy-out-is-kept : tie.Need-element-copy-out-is-kept Inv-loop μ-loop
 element-copy-out-is-kept c = search needs
 
+-- src/lib.rt:189:38
 mul-is-kept : tie.Need-mul-is-kept Inv-loop μ-loop
 mul-is-kept c = search needs
 
+-- src/lib.rt:189:38
 element-copy-out-is-kept-2 : tie.Need-element-copy-out-is-kept-2 Inv-loop μ-loop
 element-copy-out-is-kept-2 c = search needs
 
+-- src/lib.rt:189:13
 is-kept-requires : tie.Need-is-kept-requires Inv-loop μ-loop
 is-kept-requires c κs = search needs
 
+-- src/lib.rt:190:25
 cast-entries : tie.Need-cast-entries Inv-loop μ-loop
 cast-entries c = search needs
 
+-- src/lib.rt:190:9
 array-write-entries : tie.Need-array-write-entries Inv-loop μ-loop
 array-write-entries c = search needs
 
-next-if-requires : tie.Need-next-if-requires Inv-loop μ-loop
-next-if-requires c κs = search needs
+-- src/lib.rt:191:9
+add-if-requires : tie.Need-add-if-requires Inv-loop μ-loop
+add-if-requires c κs = search needs
 
-mul-with-body : tie.Need-mul-with-body Inv-loop μ-loop
-mul-with-body c = search needs
-
-element-copy-out-with-body : tie.Need-element-copy-out-with-body Inv-loop μ-loop
-element-copy-out-with-body c = search needs
-
-mul-with-body-2 : tie.Need-mul-with-body-2 Inv-loop μ-loop
-mul-with-body-2 c = search needs
-
-element-copy-out-with-body-2 : tie.Need-element-copy-out-with-body-2 Inv-loop μ-loop
-element-copy-out-with-body-2 c = search needs
-
-with-body-requires : tie.Need-with-body-requires Inv-loop μ-loop
-with-body-requires c κs = search needs
-
+-- src/lib.rt:192:9
 add-j : tie.Need-add-j Inv-loop μ-loop
 add-j c = search needs
 
+-- src/lib.rt:188:5
 loop-less : tie.Need-loop-less Inv-loop μ-loop
 loop-less c = search needs
 
+-- src/lib.rt:188:5
 loop-again : tie.Need-loop-again Inv-loop μ-loop
-loop-again c =
-    let kept = c .before .before .before in
-    let asked = kept .before in
-    let turn = asked .before .before .before .before in
-    keeping-turn _ _ _ _ _ _ _ _ _ _ _ (turn .loop .inv) (search needs) (search needs) _ _ _ (asked .is-kept .ensures) (kept .next-if .ensures) (c .with-body .ensures)
+loop-again c = search (needs, keeping-turn)
 
+-- src/lib.rt:174:1
 returns : tie.Need-returns Inv-loop μ-loop
 returns c = search (needs, keeping-end)
 
@@ -79,12 +75,7 @@ kept-rules-spec =
     is-kept-requires
     cast-entries
     array-write-entries
-    next-if-requires
-    mul-with-body
-    element-copy-out-with-body
-    mul-with-body-2
-    element-copy-out-with-body-2
-    with-body-requires
+    add-if-requires
     add-j
     loop-less
     loop-again

@@ -1,15 +1,15 @@
 -- Which rules of a table are kept for a copy.
 use mathlib.Core.Bool.{Bool, not, _&&_, _||_}
-use mathlib.Core.List.{List, map}
+use mathlib.Core.List.{List, [], _∷_, map}
 use mathlib.Core.Path.{_≡_}
-use Prim.Native.Nat.{ℕ, _≤_, _<_}
+use Prim.Native.Nat.{ℕ, _+_, _≤_, _<_}
 use lib.Dec.{eqb}
-use lib.ListN.{getD}
+use lib.ListN.{length, getD}
 use Rattle.lists.specs.Lists.{all, filter, range}
 use Rattle.bits.specs.inner.Sets.{has}
 use Rattle.bits.specs.inner.Visited.{listed}
-use Rattle.program.specs.inner.Held.{bodyOf}
-use Rattle.copies.specs.inner.Bodies.{atomCount}
+use Rattle.copies.specs.inner.Bodies.{bodyAtoms}
+use Rattle.copies.specs.declared.KeptNumbers.{KeptNumbers}
 use Rattle.copies.specs.declared.KeptRules.{KeptRules}
 
 -- A rule is kept for a copy of a: a is its head, and its positive atoms of a's component have copies.
@@ -30,8 +30,26 @@ pub record ListedAt (entries : List ℕ) (j r : ℕ) : Type 0 where
   pub is : r ≡ getD entries j 0
   pub low : r < 128
 
--- The rules kept for a copy of a, and how many atoms their bodies have.
-pub record Kept (heads pos neg : List ℕ) (rules a component copied : ℕ) (r : KeptRules) : Type 0 where
+-- The rules kept for a copy of a.
+pub record Kept (heads pos : List ℕ) (rules a component copied : ℕ) (r : KeptRules) : Type 0 where
   pub entries : map (λ j. getD (r .entries) j 0) (range 0 (r .rules)) ≡ keptEntries heads pos rules a component copied
-  pub atoms : r .atoms ≡ atomCount (map (λ i. bodyOf (getD pos i 0) (getD neg i 0)) (keptEntries heads pos rules a component copied))
   pub inside : Inside (r .entries) (r .rules)
+
+-- Sizes that bodies have.
+pub record SmallSizes (sizes : List ℕ) : Type 0 where
+  pub low : (i : ℕ) → i < 128 → getD sizes i 0 ≤ 128
+
+-- The sizes of the first so many bodies.
+pub record SizesOf (pos neg : List ℕ) (rules : ℕ) (sizes : List ℕ) : Type 0 where
+  pub is : (i : ℕ) → i < rules → getD sizes i 0 ≡ bodyAtoms (getD pos i 0) (getD neg i 0)
+  pub small : SmallSizes sizes
+
+-- The sum of the numbers that stand at the indices.
+unfoldable pub sumAt : List ℕ → List ℕ → ℕ
+sumAt sizes [] = 0
+sumAt sizes (i ∷ is) = getD sizes i 0 + sumAt sizes is
+
+-- How many rules are kept for a copy of a, and how many atoms their bodies have.
+pub record KeptCounted (heads pos sizes : List ℕ) (rules a component copied : ℕ) (r : KeptNumbers) : Type 0 where
+  pub number : r .rules ≡ length (keptEntries heads pos rules a component copied)
+  pub sum : r .atoms ≡ sumAt sizes (keptEntries heads pos rules a component copied)

@@ -1,6 +1,6 @@
 -- `core::body_slice` meets its contract, one law for each way through it.
 use borrow.Author.Needs.{needs}
-use Rattle.core.proofs.Reading.{slice-none, slice-shown}
+use Rattle.core.proofs.Reading.{slice-shown, contents-empty, refused-empty, refused-lies}
 use Rattle.core.proofs.body_slice.Statement.{statement}
 use Rattle.core.proofs.body_slice.Tie as tie
 
@@ -17,7 +17,7 @@ part-result-end : tie.Need-part-result-end
 part-result-end c = search needs
 
 returns : tie.Need-returns
-returns c = search (needs, slice-none)
+returns c = search (needs, contents-empty, refused-empty, refused-lies)
 
 sub-result-2 : tie.Need-sub-result-2
 sub-result-2 c = search needs

@@ -1,4 +1,4 @@
-use Rattle.core.proofs.Unfolding.{clauses-refused, asked-ready, clauses-full, clauses-done}
+use Rattle.core.proofs.Unfolding.{clauses-refused, asked-ready, clauses-full, clauses-room, clauses-done}
 use borrow.Author.Needs.{needs}
 use Rattle.core.proofs.clauses.Statement.{statement}
 use Rattle.core.proofs.clauses.Tie as tie
@@ -26,7 +26,7 @@ returns-2 c = search (needs, clauses-full)
 
 -- src/lib.rt:379:9
 put-clauses-requires : tie.Need-put-clauses-requires
-put-clauses-requires c κs = search (needs, asked-ready)
+put-clauses-requires c κs = (search (needs, asked-ready), search (needs, clauses-room))
 
 -- src/lib.rt:362:1
 same-length : tie.Need-same-length

@@ -1,4 +1,4 @@
-use Rattle.core.proofs.Unfolding.{unfolded-refused, asked-ready, unfolded-full, unfolded-done}
+use Rattle.core.proofs.Unfolding.{unfolded-refused, asked-ready, unfolded-full, unfolded-room, unfolded-done}
 use borrow.Author.Needs.{needs}
 use Rattle.core.proofs.unfolded.Statement.{statement}
 use Rattle.core.proofs.unfolded.Tie as tie
@@ -26,7 +26,7 @@ returns-2 c = search (needs, unfolded-full)
 
 -- src/lib.rt:357:9
 put-unfolded-requires : tie.Need-put-unfolded-requires
-put-unfolded-requires c κs = search (needs, asked-ready)
+put-unfolded-requires c κs = (search (needs, asked-ready), search (needs, unfolded-room))
 
 -- src/lib.rt:341:1
 same-length : tie.Need-same-length

@@ -14,12 +14,15 @@ returns : tie.Need-returns
 returns c = found-many (c .before .before .before .before .before .args .t) (c .before .before .before .before .before .pre) _ (c .before .before .negated .ensures) (λ j. search needs) _ (c .before .size .ensures) (c .if1 .taken)
 
 count-models-requires : tie.Need-count-models-requires
-count-models-requires c κs = (c .before .before .before .before .before .pre, c .before .before .negated .ensures, size-few _ _ (c .before .size .ensures) (search needs))
+count-models-requires c κs =
+    let asked = c .before .before in
+    (asked .before .before .before .before .pre, asked .before .negated .ensures, size-few _ _ (asked .size .ensures) (search needs), search needs, search needs)
 
 returns-2 : tie.Need-returns-2
 returns-2 c =
-    let s = c .before .before .before .before .before .before in
-    found-exact (s .args .t) (s .pre) _ (c .before .before .before .negated .ensures) (λ j. search needs) _ (c .before .before .size .ensures) _ (search needs) (c .count-models .ensures)
+    let asked = c .before .before .before in
+    let s = asked .before .before .before .before in
+    found-exact (s .args .t) (s .pre) _ (asked .before .negated .ensures) (λ j. search needs) _ (asked .size .ensures) _ (search needs) (c .count-models .ensures)
 
 pub count-spec : {M : Type 1} → statement M
 count-spec =

@@ -2,19 +2,19 @@
 use mathlib.Core.Bool.{true}
 use mathlib.Core.List.{List, map}
 use mathlib.Core.Path.{_≡_}
-use Prim.Native.Nat.{ℕ}
-use lib.ListN.{getD}
+use Prim.Native.Nat.{ℕ, _≤_}
+use lib.ListN.{length, getD}
 use Rattle.lists.specs.Lists.{range}
 use Rattle.bits.specs.inner.Sets.{Gathered}
 use Rattle.sheet.specs.Questions.{ask}
 use Rattle.sheet.specs.Format.{end, listFits, listsFit, recordQuestions, recordsQuestions, atomsByte, recordsByte}
 use Rattle.sheet.specs.inner.Walk.{formQuestions}
-use Rattle.sheet.specs.Sheet.{Record, recordAt, recordsFrom, records}
+use Rattle.sheet.specs.Sheet.{Record, recordAt, recordsFrom}
 use Rattle.sheet.specs.declared.Limits.{Limits}
 use Rattle.program.specs.inner.Held.{bodyOf}
 use Rattle.reader.specs.declared.Gather.{Gather}
 use Rattle.reader.specs.declared.Entry.{Entry}
-use Rattle.reader.specs.declared.RecordTable.{RecordTable}
+use Rattle.reader.specs.declared.Header.{Header}
 
 -- The record of a kind, a head and two sets.
 unfoldable pub recordOf : ℕ → ℕ → ℕ → ℕ → Record
@@ -23,10 +23,6 @@ recordOf kind head pos neg = record { kind = kind; head = head; body = bodyOf po
 -- The records at k entries, from the j-th on.
 unfoldable pub recordsAt : List ℕ → List ℕ → List ℕ → List ℕ → ℕ → ℕ → List Record
 recordsAt kinds heads pos neg j k = map (λ i. recordOf (getD kinds i 0) (getD heads i 0) (getD pos i 0) (getD neg i 0)) (range j k)
-
--- The records of a table.
-unfoldable pub recordsIn : RecordTable → List Record
-recordsIn r = recordsAt (r .kinds) (r .heads) (r .pos) (r .neg) 0 (r .count)
 
 -- Question 6 of a list, and its set.
 pub record ListRead (n : ℕ) (l : List ℕ) (r : Gather) : Type 0 where
@@ -48,18 +44,28 @@ pub record EntryRead (n : ℕ) (s : List ℕ) (at : ℕ) (r : Entry) : Type 0 wh
   pub says : r .refusal ≡ recordQuestions n s at
   pub taken : r .refusal ≡ 0 → Taken s at r
 
--- The table holds m records over n atoms, and these.
-pub record TableOf (n m : ℕ) (rs : List Record) (r : RecordTable) : Type 0 where
-  pub atoms : r .atoms ≡ n
-  pub count : r .count ≡ m
-  pub records : recordsIn r ≡ rs
+-- A header that passes: its numbers, and what is left of questions 1 to 6.
+pub record HeaderPassed (L : Limits) (s : List ℕ) (r : Header) : Type 0 where
+  pub long : 5 ≤ length s
+  pub atoms : r .atoms ≡ atomsByte s
+  pub records : r .records ≡ recordsByte s
+  pub low : r .atoms ≤ L .atoms
+  pub few : r .records ≤ L .records
+  pub rest : formQuestions L s ≡ recordsQuestions (r .records) (r .atoms) s 5
 
--- Questions 4 to 6 of m records, and the table.
-pub record RecordsRead (n m : ℕ) (s : List ℕ) (r : RecordTable) : Type 0 where
-  pub says : r .refusal ≡ recordsQuestions m n s 5
-  pub table : r .refusal ≡ 0 → TableOf n m (recordsFrom m s 5) r
+-- Questions 1 to 3.
+pub record HeaderRead (L : Limits) (s : List ℕ) (r : Header) : Type 0 where
+  pub refused : (r .refusal ≡ 0 → ⊥) → r .refusal ≡ formQuestions L s
+  pub passed : r .refusal ≡ 0 → HeaderPassed L s r
 
--- Questions 1 to 6, and the table.
-pub record SheetRead (L : Limits) (s : List ℕ) (r : RecordTable) : Type 0 where
-  pub says : r .refusal ≡ formQuestions L s
-  pub table : r .refusal ≡ 0 → TableOf (atomsByte s) (recordsByte s) (records s) r
+-- Arrays of 128.
+pub record RecordArrays (ks hs ps ns : List ℕ) : Type 0 where
+  pub kinds : length ks ≡ 128
+  pub heads : length hs ≡ 128
+  pub pos : length ps ≡ 128
+  pub neg : length ns ≡ 128
+
+-- Questions 4 to 6 of m records, and the records as they are stored.
+pub record RecordsRead (n m : ℕ) (s ks hs ps ns : List ℕ) (r : ℕ) : Type 0 where
+  pub says : r ≡ recordsQuestions m n s 5
+  pub stored : r ≡ 0 → recordsAt ks hs ps ns 0 m ≡ recordsFrom m s 5

@@ -1,7 +1,6 @@
 use borrow.Author.Needs.{needs}
-use Rattle.sheet_output.proofs.Loops.{blocks-room, blocksFrom, blocks-start, blocks-next, blocks-end}
-use Rattle.sheet_output.specs.inner.Names.{blocksOf}
-use Rattle.writer.proofs.Writing.{Left, left-start, left-turn, left-end, left-length}
+use Rattle.sheet_output.proofs.Loops.{BlocksLeft, blocks-room, blocks-wrote}
+use Rattle.writer.proofs.Loops.{range-start, range-turn, range-length}
 use Prim.Native.Nat.{_-_}
 use Rattle.sheet_output.proofs.put_blocks.Statement.{statement}
 use Rattle.sheet_output.proofs.put_blocks.Tie as tie
@@ -10,14 +9,14 @@ use Rattle.sheet_output.proofs.put_blocks.Lts as lts
 use Rattle.sheet_output.proofs.put_block.Reads as put-block-reads
 
 abbrev Inv-loop : tie.InvT-loop
-Inv-loop out₀ at sets n next₀ c₀ out next c = Left out₀ at (blocksOf sets n) out next (blocksFrom sets n c)
+Inv-loop out₀ at sets n next₀ c₀ out next c = BlocksLeft sets n out₀ at out next c
 
 abbrev μ-loop : tie.MeasureT-loop
 μ-loop out₀ at sets n next₀ c₀ out next c = n - c
 
 -- src/lib.rt:63:5
 loop-holds : tie.Need-loop-holds Inv-loop μ-loop
-loop-holds c = search (needs, left-start, blocks-start)
+loop-holds c = search (needs, range-start)
 
 -- src/lib.rt:64:37
 mul-put-block : tie.Need-mul-put-block Inv-loop μ-loop
@@ -41,15 +40,15 @@ loop-less c = search needs
 
 -- src/lib.rt:63:5
 loop-again : tie.Need-loop-again Inv-loop μ-loop
-loop-again c = search (needs, left-turn, blocks-next)
+loop-again c = search (needs, range-turn)
 
 -- src/lib.rt:57:1
 same-length : tie.Need-same-length Inv-loop μ-loop
-same-length c = search (needs, left-length)
+same-length c = search (needs, range-length)
 
 -- src/lib.rt:57:1
 returns : tie.Need-returns Inv-loop μ-loop
-returns c = search (needs, left-end, blocks-end)
+returns c = search (needs, blocks-wrote)
 
 pub put-blocks-spec : {M : Type 1} → statement M
 put-blocks-spec =

@@ -10,8 +10,21 @@ use Rattle.asp.specs.Program.{Rule}
 use Rattle.sheet.specs.Sheet.{Record, programOf}
 use Rattle.program.specs.declared.ProgramTable.{ProgramTable}
 use Rattle.program.specs.inner.Held.{rulesAt, programIn}
-use Rattle.reader.specs.declared.RecordTable.{RecordTable}
-use Rattle.reader.specs.inner.Tabled.{recordsIn}
+use Rattle.reader.specs.inner.Tabled.{recordsAt}
+
+-- The first `count` records of four lists.
+pub record Records : Type 0 where
+  pub count : ℕ
+  pub kinds : List ℕ
+  pub heads : List ℕ
+  pub pos : List ℕ
+  pub neg : List ℕ
+
+abbrev pub table : ℕ → List ℕ → List ℕ → List ℕ → List ℕ → Records
+table m ks hs ps ns = record { count = m; kinds = ks; heads = hs; pos = ps; neg = ns }
+
+abbrev pub recordsIn : Records → List Record
+recordsIn t = recordsAt (t .kinds) (t .heads) (t .pos) (t .neg) 0 (t .count)
 
 -- The first k entries of a table of rules and constraints.
 pub record Entries : Type 0 where
@@ -60,8 +73,8 @@ pub record Appended (e : Entries) (more : List Rule) (r : Entries) : Type 0 wher
   pub is : entriesIn r ≡ entriesIn e ++ more
   pub size : r .k ≡ e .k + length more
 
--- The table holds the program of the records.
-pub record Translated (t : RecordTable) (r : ProgramTable) : Type 0 where
-  pub atoms : r .atoms ≡ t .atoms
+-- The table holds the program of n atoms of the records.
+pub record Translated (n : ℕ) (rs : List Record) (r : ProgramTable) : Type 0 where
+  pub atoms : r .atoms ≡ n
   pub few : r .rules + r .constraints ≤ 128
-  pub is : programIn r ≡ programOf (t .atoms) (recordsIn t)
+  pub is : programIn r ≡ programOf n rs

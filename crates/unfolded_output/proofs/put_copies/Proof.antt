@@ -32,13 +32,13 @@ kept-rules-requires : tie.Need-kept-rules-requires Inv-loop μ-loop
 kept-rules-requires c κs = search needs
 
 overlay-requires : tie.Need-overlay-requires Inv-loop μ-loop
-overlay-requires c κs = c .before .before .before .before .before .before .before .before .before .before .before .before .before .before .before .before .pre .1 .long
+overlay-requires c κs = c .before .before .before .before .before .before .before .before .before .before .before .before .before .before .before .pre .1 .long
 
 put-copy-requires : tie.Need-put-copy-requires Inv-loop μ-loop
 put-copy-requires c κs =
     let laid = c .before .before .before .before .before in
     let kept = laid .before .before .before .before in
-    let made = kept .before .before .before .before .before in
+    let made = kept .before .before .before .before in
     let test = made .before .before in
     let start = test .before .before .before .before .before .before in
     (start .pre .1, kept .kept-rules .ensures .inside, copies-room _ _ _ _ (start .pre .0) _ _ _ _ _ _ _ _ (test .before .loop .inv) (test .loop-test .taken) _ (made .copy-at .ensures) _ (kept .kept-rules .ensures) _ _ (start .pre .1) (laid .overlay .ensures) (start .pre .2))
@@ -53,7 +53,7 @@ with-requires : tie.Need-with-requires Inv-loop μ-loop
 with-requires c κs = search needs
 
 add-i : tie.Need-add-i Inv-loop μ-loop
-add-i c = let test = c .before .before .before .before .before .before .before .before .before .before .before .before .before .before .before .before .before .before .before .before in let start = test .before .before .before .before .before .before in omega (arith, test .loop-test .taken, start .pre .0 .short)
+add-i c = let test = c .before .before .before .before .before .before .before .before .before .before .before .before .before .before .before .before .before .before .before in let start = test .before .before .before .before .before .before in omega (arith, test .loop-test .taken, start .pre .0 .short)
 
 loop-less : tie.Need-loop-less Inv-loop μ-loop
 loop-less c = search needs
@@ -63,7 +63,7 @@ loop-again c =
     let put = c .before .before .before in
     let laid = put .before .before .before .before .before .before in
     let kept = laid .before .before .before .before in
-    let made = kept .before .before .before .before .before in
+    let made = kept .before .before .before .before in
     let test = made .before .before in
     let start = test .before .before .before .before .before .before in
     copies-turn _ _ _ _ (start .pre .0) _ _ _ _ _ _ _ _ (test .before .loop .inv) (test .loop-test .taken) _ (made .copy-at .ensures) _ (kept .kept-rules .ensures) _ _ (start .pre .1) (laid .overlay .ensures) _ (c .with .ensures) _ _ (put .put-copy .ensures)

@@ -6,6 +6,7 @@ use Rattle.unfolded_output.proofs.put_copy.Statement.{statement}
 use Rattle.unfolded_output.proofs.put_copy.Tie as tie
 
 put-word-requires : tie.Need-put-word-requires
+unfolding keptWords
 put-word-requires c κs = search needs
 
 cast-put-word : tie.Need-cast-put-word

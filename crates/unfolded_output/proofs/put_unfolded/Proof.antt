@@ -1,5 +1,5 @@
 -- `unfolded_output::put_unfolded` meets its contract, one law for each way through it.
-use Rattle.unfolded_output.proofs.Whole.{first-room, behind-room, constraints-room, words-wrote}
+use Rattle.unfolded_output.proofs.Whole.{room-first, room-copies, room-behind, room-constraints, words-wrote}
 use borrow.Author.Needs.{needs}
 use Rattle.unfolded_output.proofs.put_unfolded.Statement.{statement}
 use Rattle.unfolded_output.proofs.put_unfolded.Tie as tie
@@ -14,22 +14,22 @@ cast-put-word : tie.Need-cast-put-word
 cast-put-word c = search needs
 
 put-word-requires : tie.Need-put-word-requires
-put-word-requires c κs = search needs
+put-word-requires c κs = search (needs, room-first)
 
 put-copies-requires : tie.Need-put-copies-requires
-put-copies-requires c κs = search (needs, first-room)
+put-copies-requires c κs = search (needs, room-copies)
 
 cast-put-word-2 : tie.Need-cast-put-word-2
 cast-put-word-2 c = search needs
 
 put-word-requires-2 : tie.Need-put-word-requires-2
-put-word-requires-2 c κs = search (needs, behind-room)
+put-word-requires-2 c κs = search (needs, room-behind)
 
 add-put-entries : tie.Need-add-put-entries
 add-put-entries c = search needs
 
 put-entries-requires : tie.Need-put-entries-requires
-put-entries-requires c κs = (search needs, search needs, search (needs, constraints-room))
+put-entries-requires c κs = (search needs, search needs, search (needs, room-constraints))
 
 same-length : tie.Need-same-length
 same-length c = search needs

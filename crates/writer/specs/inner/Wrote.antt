@@ -1,4 +1,4 @@
--- What a writer promises, at any element type: the elements are stored from a place on, each where the buffer has room for it.
+-- What a writer promises, at any element type: the elements are stored from a place on.
 use mathlib.Core.List.{List}
 use mathlib.Core.Path.{_≡_}
 use Prim.Native.Nat.{ℕ, _+_}
