@@ -6,4 +6,3 @@ pub mod Words
 pub mod Lines
 pub mod Clauses
 pub mod Decoding
-pub mod Examples
