@@ -1,9 +1,10 @@
-/* Sheet A from C: its default sequence, its clauses and its settled states. */
+/* Sheet A from C: its default sequence, its clauses and its settled states; and a sheet with a choice rule. */
 #include "rulesheet.h"
 #include <stdio.h>
 
 int main(void) {
     const uint8_t sheet[] = {1, 0, 25, 3, 4, 4, 0, 0, 1, 1, 4, 0, 1, 1, 0, 4, 0, 0, 0, 2, 4, 0, 2, 0, 0};
+    const uint8_t window[] = {1, 0, 9, 1, 1, 3, 2, 0, 0}; /* atom 0, a window's contact, may be in or not */
     uint8_t sequence[RULESHEET_DEFAULT_ROOM];
     int32_t words[16384];
     uint64_t written, variables, clauses, count, verdict;
@@ -24,6 +25,10 @@ int main(void) {
         return 1;
     }
     printf("settled states: %d, verdict %d\n", (int)count, (int)verdict);
+    if (rulesheet_count(window, sizeof window, &count, &verdict) != 0) {
+        return 1;
+    }
+    printf("with a choice rule: %d, verdict %d\n", (int)count, (int)verdict);
     printf("no bytes: refused %u\n", rulesheet_count(sheet, 0, &count, &verdict));
     return 0;
 }

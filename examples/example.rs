@@ -1,4 +1,4 @@
-//! Sheet A from Rust: its default sequence, its clauses and its settled states.
+//! Sheet A from Rust: its default sequence, its clauses and its settled states; and a sheet with a choice rule.
 
 #[path = "../include/rulesheet.rs"]
 mod rulesheet;
@@ -18,6 +18,9 @@ fn main() -> Result<(), u32> {
     println!("clauses: {clauses} over {variables} variables");
     let [count, verdict] = rulesheet::count(&sheet)?;
     println!("settled states: {count}, verdict {verdict}");
+    // Atom 0, a window's contact, may be in or not.
+    let [count, verdict] = rulesheet::count(&[1, 0, 9, 1, 1, 3, 2, 0, 0])?;
+    println!("with a choice rule: {count}, verdict {verdict}");
     println!("no bytes: refused {}", rulesheet::count(&[]).unwrap_err());
     Ok(())
 }

@@ -1,16 +1,18 @@
 #!/usr/bin/env python3
 """examples/sheet.py [--sheet] FILE: writes the bytes of the sheet in a text file, and of its sequence unless --sheet is given.
 
-A line is `HEAD if BODY`, `HEAD` alone, `never if BODY` for a constraint, or `sequence` with atoms, once. BODY is atoms divided by
-commas, each with `not` in front or without. Atoms are names of letters a to z, digits and _, numbered as the rules name them; `if`,
-`not`, `never` and `sequence` are no names. Text behind # is a comment. Anything else is refused: the file, the line and what was
-expected go to standard error, nothing goes to standard output, and the exit status is 2.
+A line is `HEAD if BODY`, `HEAD` alone, `{HEAD} if BODY` or `{HEAD}` for a choice rule, `never if BODY` for a constraint, or `sequence`
+with atoms, once. BODY is atoms divided by commas, each with `not` in front or without. Atoms are names of letters a to z, digits and _,
+numbered as the rules name them; `if`, `not`, `never` and `sequence` are no names. Each choice rule has a fresh atom of its own; in the
+sequence `{HEAD}` names the fresh atoms of all choice rules for HEAD, in their order. Text behind # is a comment. Anything else is
+refused: the file, the line and what was expected go to standard error, nothing goes to standard output, and the exit status is 2.
 """
 
 import re
 import sys
 
 RESERVED = ("if", "not", "never", "sequence")
+RULE, CONSTRAINT, CHOICE = range(3)
 
 
 def main():
@@ -39,30 +41,50 @@ def encoded(path, lines, sheet_alone):
             elif words:
                 records.append(record(atoms, words))
                 expect("at most 128 rules", len(records) <= 128, "more")
+                expect("at most 64 atoms, with one for each choice rule", len(atoms) + len(choices(records)) <= 64, "more")
         expect("a line with `sequence`, or --sheet", sheet_alone or entries is not None, "neither")
-        place, entries = named_at, entries or []
+        place = named_at
+        entries = [entry for name in entries or [] for entry in named(atoms, records, name)]
         expect("at most 640 atoms", len(entries) <= 640, "more")
-        for name in entries:
-            expect("an atom that some rule names", name in atoms, name)
     except ValueError as error:
         refuse(f"{path}:{place}: {error}")
     body = b"".join(records)
     sheet = bytes([1]) + two(5 + len(body)) + bytes([len(atoms), len(records)]) + body
-    return sheet, bytes([1]) + two(len(entries)) + bytes(atoms[name] for name in entries)
+    return sheet, bytes([1]) + two(len(entries)) + bytes(entries)
+
+
+def named(atoms, records, name):
+    """What stands for a name in the sequence: an atom, or the fresh atoms of the choice rules for one."""
+    if not braced(name):
+        expect("an atom that some rule names", name in atoms, name)
+        return [atoms[name]]
+    heads = choices(records)
+    fresh = [len(atoms) + place for place, head in enumerate(heads) if head == atoms.get(name[1:-1])]
+    expect("the head of a choice rule in { }", fresh, name)
+    return fresh
+
+
+def choices(records):
+    """The heads of the choice rules."""
+    return [record[2] for record in records if record[1] == CHOICE]
+
+
+def braced(word):
+    return word[:1] == "{" and word[-1:] == "}"
 
 
 def record(atoms, words):
     head, rest = words[0], words[1:]
-    never = head == "never"
-    expect("`if` with a body behind it", rest[:1] == ["if"] and rest[1:] or not rest and not never, " ".join(rest))
-    head = 0 if never else number(atoms, head)
+    kind = CONSTRAINT if head == "never" else CHOICE if braced(head) else RULE
+    expect("`if` with a body behind it", rest[:1] == ["if"] and rest[1:] or not rest and kind != CONSTRAINT, " ".join(rest))
+    head = 0 if kind == CONSTRAINT else number(atoms, head[1:-1] if kind == CHOICE else head)
     positives, negatives = set(), set()
     for part in " ".join(rest[1:]).split(",") if rest else []:
         literal = part.split()
         negative = literal[:1] == ["not"]
         expect("an atom, or `not` and an atom", len(literal) == 1 + negative, part.strip())
         (negatives if negative else positives).add(number(atoms, literal[-1]))
-    parts = bytes([never, head, len(positives), *sorted(positives), *sorted(negatives)])
+    parts = bytes([kind, head, len(positives), *sorted(positives), *sorted(negatives)])
     return bytes([len(parts)]) + parts
 
 

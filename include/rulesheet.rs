@@ -1,5 +1,5 @@
 //! The functions of rulesheet.h for Rust: their declarations, and a safe wrapper of each. A wrapper's error is the
-//! number of the refusal.
+//! number of the refusal. rulesheet.h says which atoms are written and which are fresh.
 #![allow(dead_code)]
 
 /// The declarations of rulesheet.h.
@@ -59,7 +59,7 @@ pub const DEFAULT_ROOM: usize = 643;
 pub const UNFOLDED_ROOM: usize = 9_585_922;
 pub const CLAUSES_ROOM: usize = 38_192_384;
 
-/// The numbers of atoms and of records.
+/// The numbers of written atoms and of records.
 pub fn read(sheet: &[u8]) -> Result<[u64; 2], u32> {
     let [mut atoms, mut records] = [0; 2];
     let status = unsafe { raw::rulesheet_read(sheet.as_ptr(), sheet.len(), &mut atoms, &mut records) };
@@ -74,7 +74,7 @@ pub fn body(sheet: &[u8], number: u64) -> Result<[u64; 3], u32> {
     answer(status, [positives, offset, length])
 }
 
-/// Writes for each atom the smallest atom of its component: the number of bytes.
+/// Writes for each atom, fresh ones included, the smallest atom of its component: the number of bytes.
 pub fn components(sheet: &[u8], out: &mut [u8]) -> Result<[u64; 1], u32> {
     let mut written = 0;
     let (o, room) = (out.as_mut_ptr(), out.len());
@@ -82,7 +82,7 @@ pub fn components(sheet: &[u8], out: &mut [u8]) -> Result<[u64; 1], u32> {
     answer(status, [written])
 }
 
-/// Writes the default sequence: the number of bytes.
+/// Writes the default sequence, which names the fresh atoms, too: the number of bytes.
 pub fn default_sequence(sheet: &[u8], out: &mut [u8]) -> Result<[u64; 1], u32> {
     let mut written = 0;
     let (o, room) = (out.as_mut_ptr(), out.len());

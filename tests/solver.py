@@ -4,8 +4,10 @@ import shutil
 import subprocess
 import sys
 
-# No model; all models listed.
-CLASP_STATUS = (20, 30)
+# As many models as were asked for; no model; all models.
+CLASP_STATUS = (10, 20, 30)
+# A sheet that is counted has no more answer sets.
+MOST_STATES = 65536
 
 
 def needed():
@@ -13,11 +15,13 @@ def needed():
         sys.exit("clasp and gringo are needed: apt-get install clasp gringo")
 
 
-def answer_sets(sheet):
-    """The answer sets of a sheet's bytes, each as the rising list of its atoms."""
+def answer_sets(sheet, most=MOST_STATES):
+    """The answer sets of a sheet's bytes, each as the rising list of its written atoms; none where there are more than so many."""
     ground = run(["gringo"], "\n".join(asp_rules(sheet)).encode())
-    lines = run(["clasp", "0"], ground.encode(), CLASP_STATUS).splitlines()
+    lines = run(["clasp", str(most + 1)], ground.encode(), CLASP_STATUS).splitlines()
     sets = [lines[i + 1] for i, line in enumerate(lines) if line.startswith("Answer:")]
+    if len(sets) > most:
+        return None
     return [sorted(int(atom[1:]) for atom in answer_set.split()) for answer_set in sets]
 
 
@@ -27,7 +31,7 @@ def asp_rules(sheet):
         length, kind, head, positives = sheet[at : at + 4]
         start, end = at + 4 + positives, at + 1 + length
         body = [f"a{atom}" for atom in sheet[at + 4 : start]] + [f"not a{atom}" for atom in sheet[start:end]]
-        yield f"{'' if kind else f'a{head}'} :- {', '.join(body)}."
+        yield f"{[f'a{head}', '', f'{{a{head}}}'][kind]} :- {', '.join(body)}."
         at = end
 
 
@@ -44,7 +48,7 @@ def models(dimacs):
 
 
 def cuts(dimacs, atoms):
-    """The models cut to the atoms, each as the rising list of those that are true."""
+    """The models cut to the written atoms, each as the rising list of those that are true."""
     return [[variable - 1 for variable in model if variable <= atoms] for model in models(dimacs)]
 
 

@@ -52,11 +52,13 @@ static size_t used(void (*call)(void)) {
     return STACK - low;
 }
 
-/* A rule whose lists are the atoms of two ranges. */
-static void add_rule(int head, int first, int end, int neg_first, int neg_end) {
+enum { RULE = 0, CHOICE = 2 };
+
+/* A rule or choice rule whose lists are the atoms of two ranges. */
+static void add_record(int kind, int head, int first, int end, int neg_first, int neg_end) {
     uint8_t *record = sheet + sheet_len;
     size_t size = 0;
-    record[1] = 0;
+    record[1] = kind;
     record[2] = head;
     record[3] = end - first;
     for (int atom = first; atom < end; atom++) {
@@ -68,6 +70,10 @@ static void add_rule(int head, int first, int end, int neg_first, int neg_end) {
     record[0] = 3 + size;
     sheet_len += 4 + size;
     sheet[4]++;
+}
+
+static void add_rule(int head, int first, int end, int neg_first, int neg_end) {
+    add_record(RULE, head, first, end, neg_first, neg_end);
 }
 
 static void begin(int atoms) {
@@ -90,7 +96,7 @@ static void set_sequence(int length) {
 }
 
 /* 128 rules for atom 0 with every atom in both lists; a sequence of 577 entries 0 and every other atom: the longest
- * outputs of unfolded and clauses. */
+ * outputs of unfolded and clauses, of sheets with choice rules too. */
 static void longest(void) {
     begin(64);
     for (int rule = 0; rule < 128; rule++) {
@@ -132,13 +138,43 @@ static void decided(void) {
     }
 }
 
+/* One written atom: 63 choice rules and 65 rules for it, so that there are as many rules as can be; the longest sequence. */
+static void most_rules(void) {
+    begin(1);
+    for (int record = 0; record < 128; record++) {
+        add_record(record < 63 ? CHOICE : RULE, 0, 0, 1, 0, 1);
+    }
+    end();
+    memset(sequence, 0, sizeof sequence);
+    set_sequence(640);
+    for (int atom = 1; atom < 64; atom++) {
+        sequence[3 + 576 + atom] = atom;
+    }
+}
+
+/* 16 free heads: 65,536 settled states. Rules for 32 other atoms hang on them, in components of eight. */
+static void chosen(void) {
+    begin(48);
+    for (int head = 0; head < 16; head++) {
+        add_record(CHOICE, head, 0, 0, 0, 0);
+    }
+    for (int rule = 0; rule < 112; rule++) {
+        int atom = 16 + rule % 32;
+        int other = rule < 32 ? atom / 8 * 8 + (atom + 1) % 8 : rule % 16;
+        add_rule(atom, other, other + 1, rule / 8, rule / 8 + 1);
+    }
+    end();
+    rulesheet_default(sheet, sheet_len, sequence, sizeof sequence, numbers);
+    sequence_len = numbers[0];
+}
+
 int main(void) {
     static const struct {
         const char *name;
         void (*call)(void);
     } calls[] = {{"read", read_call},   {"body", body_call},         {"components", components_call}, {"default", default_call},
                  {"test", test_call},   {"unfolded", unfolded_call}, {"clauses", clauses_call},       {"count", count_call}};
-    static void (*const inputs[])(void) = {longest, complete, decided};
+    static void (*const inputs[])(void) = {longest, complete, decided, most_rules, chosen};
     out = malloc(sizeof *out * ROOM);
     if (out == NULL) {
         return 1;

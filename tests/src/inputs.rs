@@ -1,7 +1,11 @@
 //! Sheets of many shapes, and damaged ones.
 
 use crate::random::Random;
-use crate::sheet::{constraint, rule, set_length, Record, Sheet};
+use crate::sheet::{choice, constraint, rule, set_length, Record, Sheet, CHOICE, RULE};
+
+/// The most atoms, fresh ones included.
+pub const MOST_ATOMS: usize = 64;
+const MOST_RECORDS: usize = 128;
 
 /// Rules over a set of atoms whose positive graph is strongly connected.
 #[derive(Clone, Copy, Debug)]
@@ -174,21 +178,107 @@ pub fn any_sheet(random: &mut Random) -> Sheet {
         Style::any(random).sheet(random)
     };
     if random.one_in(3) {
+        add_pairs(random, &mut sheet);
+    }
+    if random.one_in(2) {
         add_choices(random, &mut sheet);
+    }
+    if random.one_in(8) {
+        fill_with_atoms(random, &mut sheet);
+    }
+    if random.one_in(100) {
+        sheet = with_decided(random, 17);
     }
     sheet
 }
 
 /// Pairs of atoms, each of which holds if the other does not.
-pub fn add_choices(random: &mut Random, sheet: &mut Sheet) {
+pub fn add_pairs(random: &mut Random, sheet: &mut Sheet) {
     let pairs = random.between(1, 3);
     for pair in choose(random, sheet.atoms.into(), 2 * pairs).chunks_exact(2) {
-        if sheet.records.len() <= 126 {
+        if sheet.records.len() + 2 <= MOST_RECORDS {
             sheet.records.push(rule(pair[0], &[], &[pair[1]]));
             sheet.records.push(rule(pair[1], &[], &[pair[0]]));
         }
     }
     random.shuffle(&mut sheet.records);
+}
+
+/// Some rules become choice rules, which leaves the components as they are, and choice rules of certain forms are added.
+pub fn add_choices(random: &mut Random, sheet: &mut Sheet) {
+    let most = *random.pick(&[1, 2, 4, 8]);
+    for _ in 0..random.between(1, most) {
+        if let Some(record) = any_record(random, sheet).filter(|record| record.kind == RULE) {
+            record.kind = CHOICE;
+        }
+    }
+    for _ in 0..random.between(0, 2) {
+        if sheet.atoms > 0 && sheet.records.len() < MOST_RECORDS {
+            let added = any_choice(random, sheet);
+            sheet.records.insert(random.below(sheet.records.len() + 1), added);
+        }
+    }
+}
+
+/// A choice rule with a form of its own.
+fn any_choice(random: &mut Random, sheet: &Sheet) -> Record {
+    let atoms: Vec<u8> = (0..sheet.atoms).collect();
+    let head = *random.pick(&atoms);
+    let some = random.some_of(&atoms, 2);
+    let with_head = |list: &[u8]| {
+        let mut list = [others(list, head), vec![head]].concat();
+        list.sort_unstable();
+        list
+    };
+    match random.below(6) {
+        0 => choice(head, &[], &[]),
+        1 => choice(head, &[], &some),
+        // The head is in its own negative list, in its own positive list, in both.
+        2 => choice(head, &[], &with_head(&some)),
+        3 => choice(head, &[head], &some),
+        4 => choice(head, &[head], &with_head(&some)),
+        // A second choice rule for a head.
+        _ => choice(sheet.choices().next().map_or(head, |other| other.head), &[], &some),
+    }
+}
+
+/// So many atoms without rules that there are 63, 64 or 65 with the fresh ones, if there are not too many already.
+pub fn fill_with_atoms(random: &mut Random, sheet: &mut Sheet) {
+    let total = random.between(MOST_ATOMS - 1, MOST_ATOMS + 1);
+    let atoms = total.saturating_sub(sheet.choices().count()).clamp(sheet.atoms.into(), MOST_ATOMS);
+    sheet.atoms = atoms as u8;
+}
+
+/// A sheet with about so many atoms that question 11 counts: some are negated in rules or in choice rules, some are heads of
+/// choice rules, some are both.
+pub fn with_decided(random: &mut Random, number: usize) -> Sheet {
+    let n = number + random.between(1, 4);
+    let atoms = choose(random, n, n);
+    let counted = &atoms[..random.between(number - 2, number)];
+    let mut records = Vec::new();
+    for &atom in counted {
+        let head = *random.pick(&atoms);
+        let other = *random.pick(counted);
+        records.push(match random.below(5) {
+            0 => choice(atom, &[], &[]),
+            1 => choice(atom, &[], &[other]),
+            2 => choice(other, &[], &[atom]),
+            3 => rule(head, &[], &[atom]),
+            _ => choice(atom, &[], &[atom]),
+        });
+    }
+    for _ in 0..random.between(0, 12) {
+        // Neither of these counts.
+        let (positives, negatives) = (random.some_of(&atoms, 2), random.some_of(&atoms, 2));
+        records.push(constraint(&positives, &negatives));
+    }
+    random.shuffle(&mut records);
+    Sheet::new(n as u8, records)
+}
+
+fn any_record<'a>(random: &mut Random, sheet: &'a mut Sheet) -> Option<&'a mut Record> {
+    let number = random.below(sheet.records.len().max(1));
+    sheet.records.get_mut(number)
 }
 
 /// The bytes of a sheet with one thing changed, which may leave them valid.

@@ -1,25 +1,27 @@
 //! A plain implementation of every operation, from the description of the format alone.
 
 mod chains;
+mod choices;
 mod graph;
 mod questions;
 mod states;
 mod unfolded;
 
 pub use chains::all_found;
+pub use choices::expanded;
 pub use graph::Graph;
 pub use questions::{sequence as read_sequence, sheet as read_sheet};
 pub use unfolded::Unfolded;
 
 use crate::service::{Answer, Call, Operation, Service};
 use crate::sheet::{sequence_bytes, Sheet};
-use states::{answer_sets, negated};
+use states::{answer_sets, decided};
 
 /// A refusal: the number of the first question whose answer is no.
 pub type Refusal = u32;
 
 const LARGEST_COMPONENT: usize = 10;
-const MOST_NEGATED: usize = 16;
+const MOST_DECIDED: usize = 16;
 const PROGRAM_INPUT: usize = 65_536;
 pub const PROGRAM_ROOM: usize = 16_384;
 
@@ -58,7 +60,7 @@ pub fn within(answer: Answer, room: Option<usize>) -> Answer {
     }
 }
 
-/// Questions 1 to 7.
+/// Questions 1 to 6, 13 and 7.
 fn accepted(bytes: &[u8]) -> Result<(Sheet, Graph), Refusal> {
     let sheet = questions::sheet(bytes)?;
     let graph = Graph::new(&sheet);
@@ -68,10 +70,10 @@ fn accepted(bytes: &[u8]) -> Result<(Sheet, Graph), Refusal> {
     Ok((sheet, graph))
 }
 
-/// Questions 1 to 9.
+/// Questions 1 to 6, 13, and 7 to 9.
 fn accepted_together(sheet: &[u8], sequence: &[u8]) -> Result<(Sheet, Graph, Vec<u8>), Refusal> {
     let (sheet, graph) = accepted(sheet)?;
-    let entries = questions::sequence(sequence, sheet.atoms)?;
+    let entries = questions::sequence(sequence, sheet.all_atoms() as u8)?;
     if !all_found(&graph, &entries) {
         return Err(9);
     }
@@ -96,8 +98,8 @@ fn body(bytes: &[u8], number: u64) -> Result<Answer, Refusal> {
 }
 
 fn components(sheet: &[u8]) -> Result<Answer, Refusal> {
-    let (sheet, graph) = accepted(sheet)?;
-    Ok(Answer::Bytes((0..sheet.atoms).map(|atom| graph.smallest(atom)).collect()))
+    let (_, graph) = accepted(sheet)?;
+    Ok(Answer::Bytes(graph.atoms().map(|atom| graph.smallest(atom)).collect()))
 }
 
 fn default(sheet: &[u8]) -> Result<Answer, Refusal> {
@@ -131,7 +133,7 @@ fn clauses(sheet: &[u8], sequence: &[u8]) -> Result<Answer, Refusal> {
 
 fn count(sheet: &[u8]) -> Result<Answer, Refusal> {
     let (sheet, _) = accepted(sheet)?;
-    if negated(&sheet).len() > MOST_NEGATED {
+    if decided(&sheet).len() > MOST_DECIDED {
         return Err(11);
     }
     let count = answer_sets(&sheet).len() as u64;

@@ -3,7 +3,7 @@
 use crate::inputs::{flip_bit, truncate};
 use crate::random::Random;
 use crate::reference::{all_found, Graph};
-use crate::sheet::sequence_bytes;
+use crate::sheet::{sequence_bytes, Sheet};
 
 pub const MOST_ENTRIES: usize = 640;
 
@@ -96,11 +96,18 @@ pub fn malformed(atoms: u8, entries: &[u8]) -> Vec<Vec<u8>> {
     all
 }
 
+/// The entries without the fresh atoms, or with only some of them.
+pub fn without_fresh(random: &mut Random, sheet: &Sheet, entries: &[u8]) -> Vec<u8> {
+    let none = random.one_in(2);
+    entries.iter().copied().filter(|&entry| entry < sheet.atoms || !none && random.one_in(2)).collect()
+}
+
 /// A sequence of any sort, as bytes.
-pub fn any_sequence(random: &mut Random, graph: &Graph) -> Vec<u8> {
+pub fn any_sequence(random: &mut Random, sheet: &Sheet) -> Vec<u8> {
+    let graph = &Graph::new(sheet);
     let default = graph.default_sequence();
     let mut entries = if random.one_in(2) { default } else { mixed(random, graph) };
-    match random.below(10) {
+    match random.below(11) {
         0..=2 => {}
         3 if entries.len() <= 30 => entries = minimal(random, graph, &entries),
         4 if !entries.is_empty() => entries = without(&entries, random.below(entries.len())),
@@ -111,6 +118,7 @@ pub fn any_sequence(random: &mut Random, graph: &Graph) -> Vec<u8> {
         6 => random.shuffle(&mut entries),
         7 => return random.pick(&malformed(graph.atoms().count() as u8, &entries)).clone(),
         8 => return damaged(random, &entries),
+        9 => entries = without_fresh(random, sheet, &entries),
         _ => {
             let number = random.between(1, 20);
             entries = lengthened(random, graph, &entries, number);

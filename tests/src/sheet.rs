@@ -2,6 +2,7 @@
 
 pub const RULE: u8 = 0;
 pub const CONSTRAINT: u8 = 1;
+pub const CHOICE: u8 = 2;
 
 #[derive(Clone, Debug, PartialEq, Eq)]
 pub struct Record {
@@ -34,8 +35,14 @@ pub fn constraint(positives: &[u8], negatives: &[u8]) -> Record {
     Record { kind: CONSTRAINT, head: 0, positives: positives.to_vec(), negatives: negatives.to_vec() }
 }
 
+/// `head` or not, if all positives and no negatives.
+pub fn choice(head: u8, positives: &[u8], negatives: &[u8]) -> Record {
+    Record { kind: CHOICE, head, positives: positives.to_vec(), negatives: negatives.to_vec() }
+}
+
 #[derive(Clone, Debug, Default, PartialEq, Eq)]
 pub struct Sheet {
+    /// The number of written atoms, those that records may name.
     pub atoms: u8,
     pub records: Vec<Record>,
 }
@@ -51,6 +58,15 @@ impl Sheet {
 
     pub fn constraints(&self) -> impl Iterator<Item = &Record> {
         self.records.iter().filter(|record| record.kind == CONSTRAINT)
+    }
+
+    pub fn choices(&self) -> impl Iterator<Item = &Record> {
+        self.records.iter().filter(|record| record.kind == CHOICE)
+    }
+
+    /// The number of atoms, one fresh atom for each choice rule among them.
+    pub fn all_atoms(&self) -> usize {
+        usize::from(self.atoms) + self.choices().count()
     }
 
     /// Where record `number` starts in the bytes.

@@ -2,6 +2,11 @@
 
 use crate::service::{hex, Answer, Argument, Call, Operation, Service};
 
+/// The level of the service: 0 is the base, k the service after requests W1 to Wk.
+pub fn level() -> u32 {
+    include_str!("../level").trim().parse().expect("tests/level holds a number")
+}
+
 /// A case whose operation is known here.
 pub struct Case {
     pub from: u32,
@@ -49,9 +54,9 @@ fn unhex(field: &str) -> Option<Vec<u8>> {
     (0..digits.len()).step_by(2).map(|at| u8::from_str_radix(&field[at..at + 2], 16).ok()).collect()
 }
 
-/// The case as a line.
-pub fn format(until: u32, call: &Call, answer: &Answer) -> String {
-    let mut line = format!("0-{until} {}", call.operation.name());
+/// A case that stands from one level to another, as a line.
+pub fn format(from: u32, until: u32, call: &Call, answer: &Answer) -> String {
+    let mut line = format!("{from}-{until} {}", call.operation.name());
     for argument in call.operation.arguments() {
         line.push(' ');
         line += &match argument {

@@ -27,18 +27,18 @@ rules-one h d g (suc m) j =
     ∙ sym (signed-append (ruleClauses h (d + j) (g j)) (rulesClauses h (suc (d + j)) (map g (range (suc j) m))))
 
 -- The loop over the rules.
-module _ (pos-sets neg-sets vars : List ℕ) (h d : ℕ) (entries : List ℕ) (k : ℕ) where
+module _ (pos-sets neg-sets added-atoms vars : List ℕ) (h d : ℕ) (entries : List ℕ) (k : ℕ) where
   abbrev ruleOne : ℕ → List ℤ
-  ruleOne j = ruleWords vars h (d + j) (getD pos-sets (getD entries j 0) 0) (getD neg-sets (getD entries j 0) 0)
+  ruleOne j = ruleWords vars h (d + j) (getD pos-sets (getD entries j 0) 0) (getD neg-sets (getD entries j 0) 0) (getD added-atoms (getD entries j 0) 0)
 
   pub record RulesLeft (old : List ℤ) (at : ℕ) (cur : List ℤ) (next rule j : ℕ) : Type 0 where
     pub counted : rule ≡ d + j
     pub left : RangeLeft ruleOne old at 0 k cur next j
 
-  rules-are : flatMap ruleOne (range 0 (k - 0)) ≡ rulesWords pos-sets neg-sets vars h d entries k
+  rules-are : flatMap ruleOne (range 0 (k - 0)) ≡ rulesWords pos-sets neg-sets added-atoms vars h d entries k
   unfolding ruleWords rulesWords bodiesBy entryBody
   rules-are =
-      let g : ℕ → Body = λ j. entryBody pos-sets neg-sets vars (getD entries j 0) in
+      let g : ℕ → Body = λ j. entryBody pos-sets neg-sets added-atoms vars (getD entries j 0) in
       ap (λ x. flatMap ruleOne (range 0 x)) (let e : k - 0 ≡ k = omega arith in e)
       ∙ (rules-one h d g k 0
       ∙ ap (λ v. signedWords (rulesClauses h v (map g (range 0 k)))) (let e : d + 0 ≡ d = omega arith in e))
@@ -53,18 +53,18 @@ module _ (pos-sets neg-sets vars : List ℕ) (h d : ℕ) (entries : List ℕ) (k
         rules-variable l = let e = L .counted in omega arith
 
         module _ (i : ℕ) (I : ListedAt entries j i) where
-          here : ruleWords vars h rule (getD pos-sets i 0) (getD neg-sets i 0) ≡ ruleOne j
+          here : ruleWords vars h rule (getD pos-sets i 0) (getD neg-sets i 0) (getD added-atoms i 0) ≡ ruleOne j
           here =
-              ap (λ v. ruleWords vars h v (getD pos-sets i 0) (getD neg-sets i 0)) (L .counted)
-              ∙ ap (λ x. ruleWords vars h (d + j) (getD pos-sets x 0) (getD neg-sets x 0)) (I .is)
+              ap (λ v. ruleWords vars h v (getD pos-sets i 0) (getD neg-sets i 0) (getD added-atoms i 0)) (L .counted)
+              ∙ ap (λ x. ruleWords vars h (d + j) (getD pos-sets x 0) (getD neg-sets x 0) (getD added-atoms x 0)) (I .is)
 
-          pub rules-room : at + length (rulesWords pos-sets neg-sets vars h d entries k) ≤ length old
-              → next + length (ruleWords vars h rule (getD pos-sets i 0) (getD neg-sets i 0)) ≤ length cur
+          pub rules-room : at + length (rulesWords pos-sets neg-sets added-atoms vars h d entries k) ≤ length old
+              → next + length (ruleWords vars h rule (getD pos-sets i 0) (getD neg-sets i 0) (getD added-atoms i 0)) ≤ length cur
           rules-room l =
               subst (λ ws. next + length ws ≤ length cur) (sym here)
               (range-room ruleOne old at 0 k cur next j (L .left) lt (subst (λ ws. at + length ws ≤ length old) (sym rules-are) l))
 
-          pub rules-turn : (new : List ℤ) (behind : ℕ) → Wrote cur next (ruleWords vars h rule (getD pos-sets i 0) (getD neg-sets i 0)) new behind → RulesLeft old at new behind (rule + 1) (j + 1)
+          pub rules-turn : (new : List ℤ) (behind : ℕ) → Wrote cur next (ruleWords vars h rule (getD pos-sets i 0) (getD neg-sets i 0) (getD added-atoms i 0)) new behind → RulesLeft old at new behind (rule + 1) (j + 1)
           rules-turn new behind W =
               record {
                 counted = let e = L .counted in omega arith;
@@ -74,41 +74,41 @@ module _ (pos-sets neg-sets vars : List ℕ) (h d : ℕ) (entries : List ℕ) (k
       pub rules-length : length cur ≡ length old
       rules-length = range-length ruleOne old at 0 k cur next j (L .left)
 
-      pub rules-end : k ≤ j → Wrote old at (rulesWords pos-sets neg-sets vars h d entries k) cur next
+      pub rules-end : k ≤ j → Wrote old at (rulesWords pos-sets neg-sets added-atoms vars h d entries k) cur next
       rules-end l = subst (λ ws. Wrote old at ws cur next) rules-are (range-end ruleOne old at 0 k cur next j (L .left) l)
 
 -- The loop over the constraints.
-abbrev backOne : List ℕ → List ℕ → List ℕ → ℕ → List ℤ
-backOne pos-sets neg-sets vars j = backWords vars (getD pos-sets j 0) (getD neg-sets j 0)
+abbrev backOne : List ℕ → List ℕ → List ℕ → List ℕ → ℕ → List ℤ
+backOne pos-sets neg-sets added-atoms vars j = backWords vars (getD pos-sets j 0) (getD neg-sets j 0) (getD added-atoms j 0)
 
-abbrev pub BacksLeft : List ℕ → List ℕ → List ℕ → List ℤ → ℕ → ℕ → ℕ → List ℤ → ℕ → ℕ → Type 0
-BacksLeft pos-sets neg-sets vars = RangeLeft (backOne pos-sets neg-sets vars)
+abbrev pub BacksLeft : List ℕ → List ℕ → List ℕ → List ℕ → List ℤ → ℕ → ℕ → ℕ → List ℤ → ℕ → ℕ → Type 0
+BacksLeft pos-sets neg-sets added-atoms vars = RangeLeft (backOne pos-sets neg-sets added-atoms vars)
 
-module _ (pos-sets neg-sets vars : List ℕ) (old : List ℤ) (at from to : ℕ) where
+module _ (pos-sets neg-sets added-atoms vars : List ℕ) (old : List ℤ) (at from to : ℕ) where
   abbrev f : ℕ → List ℤ
-  f = backOne pos-sets neg-sets vars
+  f = backOne pos-sets neg-sets added-atoms vars
 
-  backs-are : flatMap f (range from (to - from)) ≡ backsWords pos-sets neg-sets vars from to
+  backs-are : flatMap f (range from (to - from)) ≡ backsWords pos-sets neg-sets added-atoms vars from to
   unfolding backsWords backWords signedWords entryBody
   backs-are =
-      sym (ap (flatMap clauseWords) (map-map constraintClause (entryBody pos-sets neg-sets vars) (range from (to - from)))
-      ∙ flatMap-map clauseWords (λ j. constraintClause (entryBody pos-sets neg-sets vars j)) (range from (to - from)))
+      sym (ap (flatMap clauseWords) (map-map constraintClause (entryBody pos-sets neg-sets added-atoms vars) (range from (to - from)))
+      ∙ flatMap-map clauseWords (λ j. constraintClause (entryBody pos-sets neg-sets added-atoms vars j)) (range from (to - from)))
 
-  pub backs-start : BacksLeft pos-sets neg-sets vars old at from to old at from
+  pub backs-start : BacksLeft pos-sets neg-sets added-atoms vars old at from to old at from
   backs-start = range-start f old at from to
 
-  module _ (cur : List ℤ) (next j : ℕ) (L : BacksLeft pos-sets neg-sets vars old at from to cur next j) where
+  module _ (cur : List ℤ) (next j : ℕ) (L : BacksLeft pos-sets neg-sets added-atoms vars old at from to cur next j) where
     module _ (lt : j < to) where
-      pub backs-room : at + length (backsWords pos-sets neg-sets vars from to) ≤ length old → next + length (backWords vars (getD pos-sets j 0) (getD neg-sets j 0)) ≤ length cur
+      pub backs-room : at + length (backsWords pos-sets neg-sets added-atoms vars from to) ≤ length old → next + length (backWords vars (getD pos-sets j 0) (getD neg-sets j 0) (getD added-atoms j 0)) ≤ length cur
       backs-room h = range-room f old at from to cur next j L lt (subst (λ ws. at + length ws ≤ length old) (sym backs-are) h)
 
-      pub backs-turn : (new : List ℤ) (behind : ℕ) → Wrote cur next (backWords vars (getD pos-sets j 0) (getD neg-sets j 0)) new behind → BacksLeft pos-sets neg-sets vars old at from to new behind (j + 1)
+      pub backs-turn : (new : List ℤ) (behind : ℕ) → Wrote cur next (backWords vars (getD pos-sets j 0) (getD neg-sets j 0) (getD added-atoms j 0)) new behind → BacksLeft pos-sets neg-sets added-atoms vars old at from to new behind (j + 1)
       backs-turn new behind W = range-turn f old at from to cur next j L lt new behind W
 
     pub backs-length : length cur ≡ length old
     backs-length = range-length f old at from to cur next j L
 
-    pub backs-end : to ≤ j → Wrote old at (backsWords pos-sets neg-sets vars from to) cur next
+    pub backs-end : to ≤ j → Wrote old at (backsWords pos-sets neg-sets added-atoms vars from to) cur next
     backs-end l = subst (λ ws. Wrote old at ws cur next) backs-are (range-end f old at from to cur next j L l)
 
 -- The literals from .. to - 1.

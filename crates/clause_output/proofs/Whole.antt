@@ -30,42 +30,42 @@ use Rattle.clause_output.specs.declared.Ends.{Ends}
 use Rattle.clause_output.proofs.Sizes.{first-words}
 
 -- A copy.
-module _ (pos neg vars : List ℕ) (var : ℕ) (kept : KeptRules) (E : Ends) where
+module _ (pos neg added vars : List ℕ) (var : ℕ) (kept : KeptRules) (E : Ends) where
   abbrev firsts : List ℤ
   firsts = firstWords var (E .rule) (kept .rules)
 
   abbrev seconds : List ℤ
-  seconds = rulesWords pos neg vars var (E .rule) (kept .entries) (kept .rules)
+  seconds = rulesWords pos neg added vars var (E .rule) (kept .entries) (kept .rules)
 
-  copy-is : copyClauseWords pos neg vars (E .rule) var kept ≡ firsts ++ seconds
+  copy-is : copyClauseWords pos neg added vars (E .rule) var kept ≡ firsts ++ seconds
   unfolding copyClauseWords copyClauses signedWords flatMap firstWords rulesWords
-  copy-is = ap (λ k. firstWords var (E .rule) k ++ seconds) (bodies-number pos neg vars (kept .entries) (kept .rules))
+  copy-is = ap (λ k. firstWords var (E .rule) k ++ seconds) (bodies-number pos neg added vars (kept .entries) (kept .rules))
 
   first-size : length firsts ≡ kept .rules + 2
   unfolding firstWords
   first-size = first-words var (E .rule) (kept .rules)
 
-  copy-size : length (copyClauseWords pos neg vars (E .rule) var kept) ≡ kept .rules + 2 + length seconds
+  copy-size : length (copyClauseWords pos neg added vars (E .rule) var kept) ≡ kept .rules + 2 + length seconds
   copy-size = let e = ap length copy-is ∙ length-append firsts seconds in let f = first-size in omega arith
 
   pub copy-numbers : E .rule < 1000000 → Inside (kept .entries) (kept .rules) → E .rule + kept .rules < 2147483648
   copy-numbers l I = let f = I .few in omega arith
 
-  module _ (old : List ℤ) (room : E .at + length (copyClauseWords pos neg vars (E .rule) var kept) ≤ length old) where
+  module _ (old : List ℤ) (room : E .at + length (copyClauseWords pos neg added vars (E .rule) var kept) ≤ length old) where
     pub copy-first : E .at + kept .rules + 2 ≤ length old
     copy-first = let e = copy-size in omega arith
 
     pub copy-second : (mid : List ℤ) (next : ℕ) → Wrote old (E .at) (firstWords var (E .rule) (kept .rules)) mid next
-        → next + length (rulesWords pos neg vars var (E .rule) (kept .entries) (kept .rules)) ≤ length mid
+        → next + length (rulesWords pos neg added vars var (E .rule) (kept .entries) (kept .rules)) ≤ length mid
     copy-second mid next W = let n = wrote-length _ _ _ _ _ W in let e = copy-size in let f = first-size in let m = W .moved in omega arith
 
   pub copy-put : (old mid new : List ℤ) (next r : ℕ) → Wrote old (E .at) (firstWords var (E .rule) (kept .rules)) mid next
-      → Wrote mid next (rulesWords pos neg vars var (E .rule) (kept .entries) (kept .rules)) new r → CopyPut pos neg vars var kept old new E (record { at = r; rule = E .rule + kept .rules })
+      → Wrote mid next (rulesWords pos neg added vars var (E .rule) (kept .entries) (kept .rules)) new r → CopyPut pos neg added vars var kept old new E (record { at = r; rule = E .rule + kept .rules })
   copy-put old mid new next r W K = record { wrote = subst (λ ws. Wrote old (E .at) ws new r) (sym copy-is) (wrote-append _ _ _ _ _ _ _ _ W K); rule = refl }
 
 -- The clauses of the copies that are left, and how many rules have a variable.
 pub record ClausesLeft (old ws cur : List ℤ) (E : Ends) (copies : List Copy) : Type 0 where
-  pub few : E .rule + length (keptBodies copies) ≤ 82561
+  pub few : E .rule + length (keptBodies copies) ≤ 123521
   pub rest : Left old 0 ws cur (E .at) (signedWords (copiesClauses (E .rule) copies))
 
 module _ (t : ProgramTable) (q : List ℕ) (old : List ℤ) where
@@ -115,13 +115,13 @@ module _ (t : ProgramTable) (names sets q : List ℕ) (R : Ready t names sets q)
         module _ (k : KeptRules) (K : Kept (t .heads) (t .pos) (t .rules) (c .atom) (c .component) copied k)
             (lasts vars : List ℕ) (F : Values last lasts) (O : Overlaid (c .component) latest lasts vars) where
           abbrev bodies : List Body
-          bodies = bodiesBy (t .pos) (t .neg) vars (k .entries) (k .rules)
+          bodies = bodiesBy (t .pos) (t .neg) (t .added) vars (k .entries) (k .rules)
 
           abbrev copy : Copy
           copy = record { atom = c .atom; var = c .var; kept = bodies }
 
           abbrev here : List ℤ
-          here = copyClauseWords (t .pos) (t .neg) vars (E .rule) (c .var) k
+          here = copyClauseWords (t .pos) (t .neg) (t .added) vars (E .rule) (c .var) k
 
           pub copies-small : SmallVariables vars
           copies-small = record { low = λ b l. let h = emitting-vars t names sets q R i copied latest fresh Rest W within c M k K lasts vars F O b l in omega arith }
@@ -130,21 +130,21 @@ module _ (t : ProgramTable) (names sets q : List ℕ) (R : Ready t names sets q)
           unfolding copiesClauses copyClauses copyClauseWords
           step cs =
               signed-append (copyClauses (E .rule) copy) (copiesClauses (E .rule + length bodies) cs)
-              ∙ ap (λ n. here ++ signedWords (copiesClauses (E .rule + n) cs)) (bodies-number (t .pos) (t .neg) vars (k .entries) (k .rules))
+              ∙ ap (λ n. here ++ signedWords (copiesClauses (E .rule + n) cs)) (bodies-number (t .pos) (t .neg) (t .added) vars (k .entries) (k .rules))
 
-          pub copies-room : length (copiesClauseWords (unfoldedIn t q)) ≤ length old → E .at + length (copyClauseWords (t .pos) (t .neg) vars (E .rule) (c .var) k) ≤ length cur
+          pub copies-room : length (copiesClauseWords (unfoldedIn t q)) ≤ length old → E .at + length (copyClauseWords (t .pos) (t .neg) (t .added) vars (E .rule) (c .var) k) ≤ length cur
           copies-room h =
               let S = emitting-here t names sets q R i copied latest fresh Rest W within c M k K lasts vars F O in
               left-room old 0 (total t q old) cur here _ _ (E .at) (S .holds .rest) (step (S .copies)) (let l : 0 + length (copiesClauseWords (unfoldedIn t q)) ≤ length old = omega arith in l)
 
-          pub copies-turn : (marked : ℕ) → With copied (c .atom) marked → (new : List ℤ) (E′ : Ends) → CopyPut (t .pos) (t .neg) vars (c .var) k cur new E E′
+          pub copies-turn : (marked : ℕ) → With copied (c .atom) marked → (new : List ℤ) (E′ : Ends) → CopyPut (t .pos) (t .neg) (t .added) vars (c .var) k cur new E E′
               → ClausesWritten t q old (i + 1) marked (set latest (c .atom) (c .var)) (c .fresh) new E′
           unfolding flatMap
           copies-turn marked X new E′ P =
               emitting-turn t names sets q R i copied latest fresh Rest W within c M k K lasts vars F O marked (ClausesLeft old (total t q old) new E′) X one
             where
               counted : (cs : List Copy) → length (keptBodies (copy ∷ cs)) ≡ k .rules + length (keptBodies cs)
-              counted cs = let e = length-append bodies (keptBodies cs) in let f = bodies-number (t .pos) (t .neg) vars (k .entries) (k .rules) in omega arith
+              counted cs = let e = length-append bodies (keptBodies cs) in let f = bodies-number (t .pos) (t .neg) (t .added) vars (k .entries) (k .rules) in omega arith
 
               one : (cs : List Copy) → ClausesLeft old (total t q old) cur E (copy ∷ cs) → ClausesLeft old (total t q old) new E′ cs
               one cs L =
@@ -156,28 +156,28 @@ module _ (t : ProgramTable) (names sets q : List ℕ) (R : Ready t names sets q)
 
   -- All clauses.
   constraints-written : (lasts : List ℕ) → Values last lasts
-      → backsWords (t .pos) (t .neg) lasts (t .rules) (t .rules + t .constraints) ≡ signedWords (map constraintClause (unfoldedIn t q .constraints))
+      → backsWords (t .pos) (t .neg) (t .added) lasts (t .rules) (t .rules + t .constraints) ≡ signedWords (map constraintClause (unfoldedIn t q .constraints))
   unfolding backsWords
   constraints-written lasts F = ap (λ bs. signedWords (map constraintClause bs)) (constraints-by-last t names sets q R lasts F)
 
   module _ (lasts : List ℕ) (F : Values last lasts) where
-    all-are : signedWords (clauses (unfoldedIn t q)) ≡ copiesClauseWords (unfoldedIn t q) ++ backsWords (t .pos) (t .neg) lasts (t .rules) (t .rules + t .constraints)
+    all-are : signedWords (clauses (unfoldedIn t q)) ≡ copiesClauseWords (unfoldedIn t q) ++ backsWords (t .pos) (t .neg) (t .added) lasts (t .rules) (t .rules + t .constraints)
     unfolding clauses copiesClauseWords
     all-are =
         signed-append (copiesClauses (suc (length (unfoldedIn t q .copies))) (unfoldedIn t q .copies)) (map constraintClause (unfoldedIn t q .constraints))
         ∙ sym (ap (λ ws. copiesClauseWords (unfoldedIn t q) ++ ws) (constraints-written lasts F))
 
     module _ (room : length (signedWords (clauses (unfoldedIn t q))) ≤ length old) where
-      all-size : length (copiesClauseWords (unfoldedIn t q)) + length (backsWords (t .pos) (t .neg) lasts (t .rules) (t .rules + t .constraints)) ≤ length old
-      all-size = let e = ap length all-are ∙ length-append (copiesClauseWords (unfoldedIn t q)) (backsWords (t .pos) (t .neg) lasts (t .rules) (t .rules + t .constraints)) in omega arith
+      all-size : length (copiesClauseWords (unfoldedIn t q)) + length (backsWords (t .pos) (t .neg) (t .added) lasts (t .rules) (t .rules + t .constraints)) ≤ length old
+      all-size = let e = ap length all-are ∙ length-append (copiesClauseWords (unfoldedIn t q)) (backsWords (t .pos) (t .neg) (t .added) lasts (t .rules) (t .rules + t .constraints)) in omega arith
 
       pub all-first : length (copiesClauseWords (unfoldedIn t q)) ≤ length old
       all-first = let e = all-size in omega arith
 
       pub all-second : (mid : List ℤ) (at : ℕ) → Wrote old 0 (copiesClauseWords (unfoldedIn t q)) mid at
-          → at + length (backsWords (t .pos) (t .neg) lasts (t .rules) (t .rules + t .constraints)) ≤ length mid
+          → at + length (backsWords (t .pos) (t .neg) (t .added) lasts (t .rules) (t .rules + t .constraints)) ≤ length mid
       all-second mid at W = let e = all-size in let m = W .moved in let n = wrote-length _ _ _ _ _ W in omega arith
 
     pub all-wrote : (mid new : List ℤ) (at r : ℕ) → Wrote old 0 (copiesClauseWords (unfoldedIn t q)) mid at
-        → Wrote mid at (backsWords (t .pos) (t .neg) lasts (t .rules) (t .rules + t .constraints)) new r → Wrote old 0 (signedWords (clauses (unfoldedIn t q))) new r
+        → Wrote mid at (backsWords (t .pos) (t .neg) (t .added) lasts (t .rules) (t .rules + t .constraints)) new r → Wrote old 0 (signedWords (clauses (unfoldedIn t q))) new r
     all-wrote mid new at r W K = subst (λ ws. Wrote old 0 ws new r) (sym all-are) (wrote-append _ _ _ _ _ _ _ _ W K)

@@ -37,17 +37,18 @@ fn put_rules<'a>(
     at: usize,
     copy: CopyVariables,
     kept: KeptRules,
-    pos: &'a [u64; 128],
-    neg: &'a [u64; 128],
+    pos: &'a [u64; 192],
+    neg: &'a [u64; 192],
+    added: &'a [u8; 192],
     vars: &[u32; 64],
     lasts: &[u32; 64],
 ) -> usize
     requires { ⌜ SmallVariables (now vars) × Values last (now lasts) × Inside (kept .entries) (kept .rules)
         × (copy .var < 2147483648) × (copy .rule + kept .rules < 2147483648)
-        × (at + length (rulesWords (now pos) (now neg) (now vars) (copy .var) (copy .rule) (kept .entries) (kept .rules))
+        × (at + length (rulesWords (now pos) (now neg) (now added) (now vars) (copy .var) (copy .rule) (kept .entries) (kept .rules))
         ≤ length (now out)) ⌝ }
     ensures { λ r. ⌜ Wrote (now (out .entry)) at
-        (rulesWords (now (pos .entry)) (now (neg .entry)) (now (vars .entry)) (copy .var) (copy .rule) (kept .entries) (kept .rules))
+        (rulesWords (now (pos .entry)) (now (neg .entry)) (now (added .entry)) (now (vars .entry)) (copy .var) (copy .rule) (kept .entries) (kept .rules))
         (now (out .exit)) r ⌝ }
 {
     let k = kept.rules;
@@ -58,7 +59,7 @@ fn put_rules<'a>(
     let mut j = 0;
     while j < k {
         let i = entry_at(&entries, k, j);
-        next = put_rule(out, next, var, rule, pos[i], neg[i], vars, lasts);
+        next = put_rule(out, next, var, rule, pos[i], neg[i], added[i], vars, lasts);
         rule += 1;
         j += 1;
     }
@@ -101,15 +102,16 @@ fn put_copy<'a>(
     ends: Ends,
     var: u32,
     kept: KeptRules,
-    pos: &'a [u64; 128],
-    neg: &'a [u64; 128],
+    pos: &'a [u64; 192],
+    neg: &'a [u64; 192],
+    added: &'a [u8; 192],
     vars: &[u32; 64],
     lasts: &[u32; 64],
 ) -> Ends
     requires { ⌜ SmallVariables (now vars) × Values last (now lasts) × Inside (kept .entries) (kept .rules)
         × (var < 2147483648) × (ends .rule < 1000000)
-        × (ends .at + length (copyClauseWords (now pos) (now neg) (now vars) (ends .rule) var kept) ≤ length (now out)) ⌝ }
-    ensures { λ r. ⌜ CopyPut (now (pos .entry)) (now (neg .entry)) (now (vars .entry)) var kept
+        × (ends .at + length (copyClauseWords (now pos) (now neg) (now added) (now vars) (ends .rule) var kept) ≤ length (now out)) ⌝ }
+    ensures { λ r. ⌜ CopyPut (now (pos .entry)) (now (neg .entry)) (now (added .entry)) (now (vars .entry)) var kept
         (now (out .entry)) (now (out .exit)) ends r ⌝ }
 {
     let k = kept.rules as u32;
@@ -122,6 +124,7 @@ fn put_copy<'a>(
         kept,
         pos,
         neg,
+        added,
         vars,
         lasts,
     );
@@ -155,11 +158,12 @@ fn put_copies(
     while i < q.len() {
         let copy = copy_at(q, i, names, sets, &places, fresh);
         let a = copy.atom;
+        let var = copy.var;
         let kept = kept_rules(&t.heads, &t.pos, rules, a, copy.component, copied);
         let mut vars = *lasts;
         overlay(&mut vars, &latest, copy.component);
-        ends = put_copy(out, ends, copy.var, kept, &t.pos, &t.neg, &vars, lasts);
-        latest[a] = copy.var;
+        ends = put_copy(out, ends, var, kept, &t.pos, &t.neg, &t.added, &vars, lasts);
+        latest[a] = var;
         copied = with(copied, a);
         fresh = copy.fresh;
         i += 1;
@@ -173,19 +177,20 @@ fn put_backs<'a>(
     at: usize,
     from: usize,
     to: usize,
-    pos: &'a [u64; 128],
-    neg: &'a [u64; 128],
+    pos: &'a [u64; 192],
+    neg: &'a [u64; 192],
+    added: &'a [u8; 192],
     lasts: &[u32; 64],
 ) -> usize
-    requires { ⌜ Values last (now lasts) × (to ≤ 128)
-        × (at + length (backsWords (now pos) (now neg) (now lasts) from to) ≤ length (now out)) ⌝ }
+    requires { ⌜ Values last (now lasts) × (to ≤ 192)
+        × (at + length (backsWords (now pos) (now neg) (now added) (now lasts) from to) ≤ length (now out)) ⌝ }
     ensures { λ r. ⌜ Wrote (now (out .entry)) at
-        (backsWords (now (pos .entry)) (now (neg .entry)) (now (lasts .entry)) from to) (now (out .exit)) r ⌝ }
+        (backsWords (now (pos .entry)) (now (neg .entry)) (now (added .entry)) (now (lasts .entry)) from to) (now (out .exit)) r ⌝ }
 {
     let mut next = at;
     let mut j = from;
     while j < to {
-        next = put_back(out, next, pos[j], neg[j], lasts, lasts);
+        next = put_back(out, next, pos[j], neg[j], added[j], lasts, lasts);
         j += 1;
     }
     next
@@ -204,11 +209,11 @@ pub fn put_clauses(
     ensures { λ r. ⌜ Wrote (now (out .entry)) 0 (signedWords (clauses (unfoldedIn t (now (q .entry))))) (now (out .exit)) r ⌝ }
 {
     let from = t.rules;
-    let constraints = t.constraints;
+    let to = from + t.constraints;
     let table = last_copies();
     let lasts = table.vars;
     let at = put_copies(out, t, q, names, sets, &lasts);
-    put_backs(out, at, from, from + constraints, &t.pos, &t.neg, &lasts)
+    put_backs(out, at, from, to, &t.pos, &t.neg, &t.added, &lasts)
 }
 
 // How many words the clauses have, how many variables, and how many clauses there are.

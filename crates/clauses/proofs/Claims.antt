@@ -8,15 +8,17 @@ use lib.ListN.{length, take, drop}
 use Rattle.unfolding.specs.Clauses.{readWords, signedWords}
 use Rattle.unfolding.specs.Faithful.{clausesOf, variablesOf}
 use Rattle.unfolding.specs.Claims.{Accepted}
-use Rattle.unfolding.proofs.Claims.{clauses-are-faithful, literals-are-numbered, words-are-clauses}
+use Rattle.unfolding.proofs.Claims.{literals-are-numbered, words-are-clauses}
+use Rattle.sheet.specs.Format.{atomsByte}
 use Rattle.sheet.specs.Sequence.{entries}
 use Rattle.sheet.specs.Sheet.{program}
 use Rattle.sheet.proofs.Walk.{then-passed}
+use Rattle.choice.specs.Written.{WrittenFaithful}
 use Rattle.dimacs.specs.Text.{sheetOf, sequenceOf}
 use Rattle.dimacs.specs.Decoded.{readDimacs}
 use Rattle.dimacs.proofs.Decoding.{text-is-read}
 use Rattle.core.specs.Questions.{testQuestions}
-use Rattle.core.proofs.Testing.{test-accepted}
+use Rattle.core.proofs.Testing.{test-accepted, test-faithful}
 use Rattle.office.specs.Office.{office}
 use Rattle.clauses.specs.Printed.{refusal, clausesText, printed}
 use Rattle.clauses.specs.Claims.{PrintedIsFaithful}
@@ -32,10 +34,14 @@ module _ (input : List ℕ) (z : refusal input ≡ 0) where
   unfolding printed clausesText
   read = rw (eq-eqb (refusal input) 0 z) (text-is-read _ _ (λ c m l n. literals-are-numbered _ _ accepted c m l n .0))
 
+  faithful : WrittenFaithful (atomsByte (sheetOf input)) (program (sheetOf input)) (entries (sequenceOf input))
+  unfolding refusal
+  faithful = test-faithful office (sheetOf input) (sequenceOf input) (then-passed (testQuestions office (sheetOf input) (sequenceOf input)) _ z .0)
+
 pub printed-is-faithful : PrintedIsFaithful
 printed-is-faithful input z =
     record {
       numbers = ap (take 2) (read input z);
       clauses = ap (λ zs. readWords (drop 2 zs)) (read input z) ∙ words-are-clauses _ _ (accepted input z);
-      faithful = clauses-are-faithful _ _ (accepted input z);
+      faithful = faithful input z;
     }

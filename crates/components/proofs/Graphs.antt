@@ -14,11 +14,8 @@ use Rattle.asp.specs.Program.{Program, wellFormed}
 use Rattle.unfolding.specs.Graph.{sameComponent, first, component}
 use Rattle.unfolding.specs.Default.{members}
 use Rattle.unfolding.proofs.Reach.{same-refl}
-use Rattle.program.specs.declared.ProgramTable.{ProgramTable}
-use Rattle.program.specs.inner.Held.{programIn, Readable}
 use Rattle.components.specs.Limit.{componentsFit}
-use Rattle.components.specs.inner.Reachability.{closure, Holds, EdgesOf, EdgesAt, ClosedTable, bothWays, NamedBy, NamesOf, SetsOf, named, namesFit, ComponentsOf, GraphOf}
-use Rattle.components.proofs.Linking.{edges-held}
+use Rattle.components.specs.inner.Reachability.{closure, Holds, EdgesOf, ClosedTable, bothWays, NamedBy, NamesOf, SetsOf, named, namesFit, ComponentsOf, GraphOf}
 use Rattle.components.proofs.Warshall.{into, mutual-reach}
 
 -- The first of a range in which a is one that passes.
@@ -47,31 +44,22 @@ component-first P wf a l =
     ∙ (first-within (sameComponent P a) a 0 a (P .atoms - suc a) here ∙ ap (λ d. first (sameComponent P a) d (range 0 a)) (zero-add a))
 
 -- The names and sets of a closed table are those of the components.
-components-are : (t : ProgramTable) (rows new names sets : List ℕ) → Readable t → EdgesOf (programIn t) rows → ClosedTable (t .atoms) rows new → NamedBy (t .atoms) new names → SetsOf names (t .atoms) sets
-    → ComponentsOf (programIn t) (record { edges = rows; ancestors = new; names = names; sets = sets })
-unfolding programIn
-components-are t rows new names sets T H C N S =
-    record { edges = H; named = record { long = N .long; name = λ a l. N .name a l .is ∙ (first-cong (bothWays new a) (sameComponent P a) a (range 0 a) (λ b k. same a l b (range-out 0 a b k .high)) ∙ sym (component-first P wf a l)) }; grouped = S }
-  where
-    P : Program
-    P = programIn t
+module _ (P : Program) (wf : wellFormed P ≡ true) (rows new names sets : List ℕ) where
+  components-are : EdgesOf P rows → ClosedTable (P .atoms) rows new → NamedBy (P .atoms) new names → SetsOf names (P .atoms) sets
+      → ComponentsOf P (record { edges = rows; ancestors = new; names = names; sets = sets })
+  components-are H C N S =
+      record { edges = H; named = record { long = N .long; name = λ a l. N .name a l .is ∙ (first-cong (bothWays new a) (sameComponent P a) a (range 0 a) (λ b k. same a l b (range-out 0 a b k .high)) ∙ sym (component-first P wf a l)) }; grouped = S }
+    where
+      table : Holds (P .atoms) (closure (into P) (P .atoms)) new
+      table = C .closes (into P) H
 
-    wf : wellFormed P ≡ true
-    wf = T .formed
+      same : (a : ℕ) → a < P .atoms → (b : ℕ) → b < 0 + a → bothWays new a b ≡ sameComponent P a b
+      same a l b k = rw (table .bits a l b, table .bits b (omega arith) a) (mutual-reach P wf a b l (omega arith) (λ e. omega arith))
 
-    table : Holds (t .atoms) (closure (into P) (t .atoms)) new
-    table = C .closes (into P) H
-
-    same : (a : ℕ) → a < t .atoms → (b : ℕ) → b < 0 + a → bothWays new a b ≡ sameComponent P a b
-    same a l b k = rw (table .bits a l b, table .bits b (omega arith) a) (mutual-reach P wf a b l (omega arith) (λ e. omega arith))
-
-pub graph-made : (n rules : ℕ) (heads pos rows new names sets : List ℕ) → EdgesAt heads pos rules rows → ClosedTable n rows new → NamedBy n new names → SetsOf names n sets
-    → GraphOf n rules heads pos (record { edges = rows; ancestors = new; names = names; sets = sets })
-graph-made n rules heads pos rows new names sets E C N S =
-    record {
-      is = λ t T n′ rules′ heads′ pos′.
-          components-are t rows new names sets T (edges-held t T rows (rw (heads′, pos′, rules′) E)) (rw n′ C) (rw n′ N) (rw n′ S);
-    }
+pub graph-made : (n : ℕ) (rows new names sets : List ℕ) → ClosedTable n rows new → NamedBy n new names → SetsOf names n sets
+    → GraphOf n rows (record { edges = rows; ancestors = new; names = names; sets = sets })
+graph-made n rows new names sets C N S =
+    record { is = λ P wf n′ H. components-are P wf rows new names sets H (rw n′ C) (rw n′ N) (rw n′ S) }
 
 -- The atoms with a name are the members of that component.
 pub named-members : (P : Program) (names : List ℕ) → NamesOf P names → (c : ℕ) → named names c (P .atoms) ≡ members P c

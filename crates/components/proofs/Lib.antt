@@ -1,6 +1,5 @@
 pub mod Warshall
 pub mod Closing
-pub mod Linking
 pub mod Naming
 pub mod Graphs
 pub mod Claims

@@ -3,34 +3,13 @@ use bits::has;
 use bits::lowest;
 use bits::rest;
 use bits::size;
-use bits::union;
 use bits::wide;
 use bits::with;
 ghost use mathlib.Core.Path.{_≡_};
 ghost use Prim.Native.Nat.{_≤_, _<_};
 ghost use lib.ListN.{length, replicate};
-ghost use Rattle.components.specs.inner.Reachability.{Linked, HeadsLow, EdgesAt, RowThrough, ClosedBy, ClosedTable};
+ghost use Rattle.components.specs.inner.Reachability.{RowThrough, ClosedBy, ClosedTable};
 ghost use Rattle.components.specs.inner.Reachability.{NameOf, NamedBy, NamesLow, SetsOf, SetsFit, GraphOf};
-
-// A row with the positive atoms of a rule.
-fn with_edges(row: u64, pos: u64) -> u64
-    ensures { λ r. ⌜ Linked row pos r ⌝ }
-{
-    union(row, pos)
-}
-
-// The edges of the first so many rules, each in the row of the atom that it leads to.
-fn store_edges<'a>(rows: &mut [u64; 64], heads: &'a [u8; 128], pos: &'a [u64; 128], rules: usize)
-    requires { ⌜ (now rows ≡ replicate 64 0) × (rules ≤ 128) × HeadsLow rules (now heads) ⌝ }
-    ensures { λ r. ⌜ EdgesAt (now (heads .entry)) (now (pos .entry)) rules (now (rows .exit)) ⌝ }
-{
-    let mut j = 0;
-    while j < rules {
-        let h = wide(heads[j]);
-        rows[h] = with_edges(rows[h], pos[j]);
-        j += 1;
-    }
-}
 
 // One row of a round for k, whose own row is given.
 fn row_through(x: u64, k: usize, row: u64) -> u64
@@ -135,20 +114,13 @@ pub struct Components {
     pub sets: [u64; 64],
 }
 
-// The components of a program of n atoms, by its rules' heads and positive atoms.
-pub fn components_of<'a>(
-    n: usize,
-    rules: usize,
-    heads: &'a [u8; 128],
-    pos: &'a [u64; 128],
-) -> Components
-    requires { ⌜ (n ≤ 64) × (rules ≤ 128) × HeadsLow rules (now heads) ⌝ }
-    ensures { λ r. ⌜ GraphOf n rules (now (heads .entry)) (now (pos .entry)) r ⌝ }
+// The components of a program of n atoms, by its edges.
+pub fn components_of(n: usize, edges: [u64; 64]) -> Components
+    requires { ⌜ n ≤ 64 ⌝ }
+    ensures { λ r. ⌜ GraphOf n edges r ⌝ }
 {
-    let mut edges = [0u64; 64];
     let mut names = [0u8; 64];
     let mut sets = [0u64; 64];
-    store_edges(&mut edges, heads, pos, rules);
     let mut ancestors = edges;
     close(&mut ancestors, n);
     store_names(&mut names, &ancestors, n);

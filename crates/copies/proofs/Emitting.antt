@@ -51,7 +51,7 @@ module _ (t : ProgramTable) (names sets q : List ℕ) (R : Ready t names sets q)
         module _ (k : KeptRules) (K : Kept (t .heads) (t .pos) (t .rules) (c .atom) (c .component) copied k)
             (lasts vars : List ℕ) (F : Values last lasts) (O : Overlaid (c .component) latest lasts vars) where
           abbrev copy : Copy
-          copy = record { atom = c .atom; var = c .var; kept = bodiesBy (t .pos) (t .neg) vars (k .entries) (k .rules) }
+          copy = record { atom = c .atom; var = c .var; kept = bodiesBy (t .pos) (t .neg) (t .added) vars (k .entries) (k .rules) }
 
           same : copyOf t q i (E .left .extra) (E .left .past) ≡ copy
           same = copy-is t names sets q R i (E .left .extra) (E .left .past) (E .left .few) within latest fresh (E .left .rest .tracks) c M copied (E .left .marks) k K lasts vars F O

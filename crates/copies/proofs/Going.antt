@@ -181,7 +181,7 @@ module _ (t : ProgramTable) (names sets q : List ℕ) (R : Ready t names sets q)
         ∙ (ap (λ (x : Bool). cond x (getD table b 0) (getD lasts b 0)) (ap (λ x. has x b) (M .component ∙ ap (componentSet names sets) (M .atom)) ∙ component-has t names sets q R (getD q i 0) b a-low l)
         ∙ ap₂ (λ x y. cond (sameComponent (programIn t) (getD q i 0) b) x y) (T .is b (omega arith)) (F .is b (omega arith)))
 
-    pub copy-is : copyOf t q i e past ≡ record { atom = c .atom; var = c .var; kept = bodiesBy (t .pos) (t .neg) vars (k .entries) (k .rules) }
+    pub copy-is : copyOf t q i e past ≡ record { atom = c .atom; var = c .var; kept = bodiesBy (t .pos) (t .neg) (t .added) vars (k .entries) (k .rules) }
     copy-is =
         let at-atom = subst (λ x. Kept (t .heads) (t .pos) (t .rules) x (componentSet names sets x) copied-set k) (M .atom)
         (subst (λ x. Kept (t .heads) (t .pos) (t .rules) (c .atom) x copied-set k) (M .component) K) in

@@ -2,11 +2,11 @@
 use mathlib.Core.Bool.{Bool, true, false, not, _||_, cond}
 use mathlib.Core.List.{List, [], _∷_, _++_, map, append-assoc, append-nil, List·Memᴰ, List·Memᴰ·head, List·Memᴰ·tail}
 use mathlib.Core.Path.{_≡_, refl, sym, _∙_, ap, subst}
-use Prim.Native.Nat.{ℕ, _+_, _-_, _*_, _^_, _≤_, _<_}
+use Prim.Native.Nat.{ℕ, zero, suc, _+_, _-_, _*_, _^_, _≤_, _<_}
 use native.Mathlib.Omega.{arith}
 use borrow.Author.Tests.{eq-eqb, ne-eqb, eqb-true, eqb-false}
 use lib.Dec.{eqb}
-use lib.ListN.{length, length-map, getD, set, length-set, replicate, length-replicate, getD-replicate}
+use lib.ListN.{length, length-append, length-map, getD, set, length-set, replicate, length-replicate, getD-replicate}
 use Rattle.lists.specs.Lists.{filter, range}
 use Rattle.lists.proofs.Bools.{by-bool, bool-ext, true-false}
 use Rattle.lists.proofs.Members.{all-at, all-intro, member-in, member-out, range-left, range-over}
@@ -16,8 +16,8 @@ use Rattle.asp.specs.Program.{Body}
 use Rattle.bits.specs.inner.Sets.{has, Size, Both, Subset}
 use Rattle.bits.specs.inner.Visited.{listed}
 use Rattle.bits.proofs.Visiting.{listed-few, listed-member}
-use Rattle.program.specs.inner.Held.{bodyOf, bodiesAt}
-use Rattle.copies.specs.inner.Bodies.{entryBody, bodiesBy, bodyAtoms, atomCount, atomsAt}
+use Rattle.program.specs.inner.Held.{addedAtom, bodyOf, bodiesAt}
+use Rattle.copies.specs.inner.Bodies.{entryBody, bodiesBy, negativeAtoms, bodyAtoms, atomCount, atomsAt}
 use Rattle.copies.proofs.Tables.{stored}
 use Rattle.copies.specs.inner.Kept.{keeps, keptEntries, Inside, ListedAt, Kept, SmallSizes, SizesOf, sumAt, KeptCounted}
 
@@ -44,14 +44,38 @@ module _ (a component copied head pos : ℕ) where
       (λ c. absurd (true-false h (p ∙ rw (k, c) refl))))
       (λ k. absurd (true-false h (p ∙ rw k refl))))))
 
--- How many atoms a body has.
-pub atoms-sized : (pos neg p n : ℕ) → Size pos p → Size neg n → p + n ≡ bodyAtoms pos neg
-unfolding bodyAtoms listed
-atoms-sized pos neg p n P N = let e = P .is in let f = N .is in omega arith
+-- At most one atom is added.
+pub added-few : (added : ℕ) → length (addedAtom added) ≤ 1
+unfolding addedAtom
+added-few zero = omega arith
+added-few (suc a) = omega arith
 
-pub atoms-few : (pos neg : ℕ) → bodyAtoms pos neg ≤ 128
-unfolding bodyAtoms
-atoms-few pos neg = let p = listed-few pos in let n = listed-few neg in omega arith
+-- How many negative atoms a body has.
+module _ (neg added n : ℕ) (N : Size neg n) where
+  pub negative-fits : n + 1 < 4294967296
+  unfolding listed
+  negative-fits = let e = N .is in let f = listed-few neg in omega arith
+
+  pub negative-none : added ≡ 0 → n ≡ negativeAtoms neg added
+  unfolding negativeAtoms listed addedAtom
+  negative-none z = rw z (let e = N .is in omega arith)
+
+  pub negative-added : (added ≡ 0 → ⊥) → n + 1 ≡ negativeAtoms neg added
+  unfolding negativeAtoms listed addedAtom
+  negative-added ne = more added ne
+    where
+      more : (a : ℕ) → (a ≡ 0 → ⊥) → n + 1 ≡ length (listed neg) + length (addedAtom a)
+      more zero z = absurd (z refl)
+      more (suc a) z = let e = N .is in omega arith
+
+-- How many atoms a body has.
+pub atoms-sized : (pos neg added p n : ℕ) → Size pos p → n ≡ negativeAtoms neg added → p + n ≡ bodyAtoms pos neg added
+unfolding bodyAtoms listed
+atoms-sized pos neg added p n P N = let e = P .is in omega arith
+
+pub atoms-few : (pos neg added : ℕ) → bodyAtoms pos neg added ≤ 129
+unfolding bodyAtoms negativeAtoms
+atoms-few pos neg added = let p = listed-few pos in let n = listed-few neg in let a = added-few added in omega arith
 
 pub add-yes : (b : Bool) (x k : ℕ) → b ≡ true → x + k ≡ cond b (x + k) x
 add-yes b x k t = sym (rw t refl)
@@ -62,16 +86,16 @@ unfolding atomCount
 atoms-append [] ys = omega arith
 atoms-append (b ∷ xs) ys = let e = atoms-append xs ys in omega arith
 
-atoms-one : (pos neg : ℕ) → atomCount (bodyOf pos neg ∷ []) ≡ bodyAtoms pos neg
-unfolding atomCount bodyOf bodyAtoms
-atoms-one pos neg = omega arith
+atoms-one : (pos neg added : ℕ) → atomCount (bodyOf pos neg added ∷ []) ≡ bodyAtoms pos neg added
+unfolding atomCount bodyOf bodyAtoms negativeAtoms
+atoms-one pos neg added = let e = length-append (listed neg) (addedAtom added) in omega arith
 
 -- The loop over the rules: of the first j these are kept.
 pub record Keeping (heads pos : List ℕ) (rules a component copied j : ℕ) (entries : List ℕ) (kept : ℕ) : Type 0 where
-  pub long : length entries ≡ 128
+  pub long : length entries ≡ 192
   pub few : kept ≤ j
   pub within : j ≤ rules
-  pub low : (i : ℕ) → i < kept → getD entries i 0 < 128
+  pub low : (i : ℕ) → i < kept → getD entries i 0 < 192
   pub rest : map (λ j. getD entries j 0) (range 0 kept) ++ filter (λ i. keeps a component copied (getD heads i 0) (getD pos i 0)) (range j (rules - j)) ≡ keptEntries heads pos rules a component copied
 
 module _ (heads pos : List ℕ) (rules a component copied : ℕ) where
@@ -100,11 +124,11 @@ module _ (heads pos : List ℕ) (rules a component copied : ℕ) where
   unfolding filter
   left-none j l = ap (filter keep) (range-over j rules l)
 
-  pub keeping-start : Keeping heads pos rules a component copied 0 (replicate 128 0) 0
+  pub keeping-start : Keeping heads pos rules a component copied 0 (replicate 192 0) 0
   unfolding range
   keeping-start =
       record {
-        long = length-replicate {A = ℕ} 128 0;
+        long = length-replicate {A = ℕ} 192 0;
         few = omega arith;
         within = omega arith;
         low = λ i h. absurd (omega arith);
@@ -112,15 +136,15 @@ module _ (heads pos : List ℕ) (rules a component copied : ℕ) where
       }
 
   module _ (j : ℕ) (entries : List ℕ) (kept : ℕ) (K : Keeping heads pos rules a component copied j entries kept) where
-    module _ (lt : j < rules) (most : rules ≤ 128) where
+    module _ (lt : j < rules) (most : rules ≤ 192) where
       index : kept < length entries
       index = let f = K .few in let l = K .long in omega arith
 
       abbrev Next : ℕ → Type 0
       Next = Keeping heads pos rules a component copied (j + 1) (set entries kept j)
 
-      low-more : (i : ℕ) → i < kept + 1 → getD (set entries kept j) i 0 < 128
-      low-more i h = subst (λ x. x < 128) (sym (stored entries kept j i index)) (by-bool (eqb i kept) (λ t. rw t (omega arith)) (λ f. rw f (let ne = eqb-false i kept f in K .low i (omega arith))))
+      low-more : (i : ℕ) → i < kept + 1 → getD (set entries kept j) i 0 < 192
+      low-more i h = subst (λ x. x < 192) (sym (stored entries kept j i index)) (by-bool (eqb i kept) (λ t. rw t (omega arith)) (λ f. rw f (let ne = eqb-false i kept f in K .low i (omega arith))))
 
       yes : keep j ≡ true → Next (kept + 1)
       yes t =
@@ -146,7 +170,7 @@ module _ (heads pos : List ℕ) (rules a component copied : ℕ) where
       pub keeping-turn : (b : Bool) (kept′ : ℕ) → b ≡ keeps a component copied (getD heads j 0) (getD pos j 0) → kept′ ≡ cond b (kept + 1) kept → Next kept′
       keeping-turn b kept′ e f = by-bool b (λ t. rw (f, t) (yes (sym e ∙ t))) (λ t. rw (f, t) (no (sym e ∙ t)))
 
-    pub keeping-end : rules ≤ j → rules ≤ 128 → Kept heads pos rules a component copied (record { entries = entries; rules = kept })
+    pub keeping-end : rules ≤ j → rules ≤ 192 → Kept heads pos rules a component copied (record { entries = entries; rules = kept })
     keeping-end l most =
         record {
           entries = sym (append-nil (firsts entries kept)) ∙ (ap (λ es. firsts entries kept ++ es) (sym (left-none j l)) ∙ K .rest);
@@ -160,7 +184,7 @@ module _ (heads pos : List ℕ) (rules a component copied : ℕ) where
 
     pub record CountedLeft (kept atoms j : ℕ) : Type 0 where
       pub few : kept ≤ j
-      pub low : atoms ≤ 128 * j
+      pub low : atoms ≤ 129 * j
       pub number : kept + length (left j) ≡ length kept-all
       pub sum : atoms + sumAt sizes (left j) ≡ sumAt sizes kept-all
 
@@ -168,10 +192,10 @@ module _ (heads pos : List ℕ) (rules a component copied : ℕ) where
     counted-start = let e = ap length left-all in let f = ap (sumAt sizes) left-all in record { few = omega arith; low = omega arith; number = omega arith; sum = omega arith }
 
     module _ (kept atoms j : ℕ) (K : CountedLeft kept atoms j) where
-      pub counted-room : j < rules → rules ≤ 128 → SmallSizes sizes → (k : ℕ) → k ≡ getD sizes j 0 → atoms + k < 4294967296
+      pub counted-room : j < rules → rules ≤ 192 → SmallSizes sizes → (k : ℕ) → k ≡ getD sizes j 0 → atoms + k < 4294967296
       counted-room lt most S k e = let v = K .low in let f = S .low j (omega arith) in omega arith
 
-      module _ (lt : j < rules) (most : rules ≤ 128) (S : SmallSizes sizes) where
+      module _ (lt : j < rules) (most : rules ≤ 192) (S : SmallSizes sizes) where
         counted-yes : keep j ≡ true → CountedLeft (kept + 1) (atoms + getD sizes j 0) (j + 1)
         unfolding sumAt
         counted-yes t =
@@ -211,92 +235,93 @@ module _ (heads pos : List ℕ) (rules a component copied : ℕ) where
           record { number = omega arith; sum = omega arith }
 
 -- The loop over the bodies whose sizes are stored.
-pub record Sizing (pos neg : List ℕ) (rules : ℕ) (sizes : List ℕ) (j : ℕ) : Type 0 where
-  pub long : length sizes ≡ 128
+pub record Sizing (pos neg added : List ℕ) (rules : ℕ) (sizes : List ℕ) (j : ℕ) : Type 0 where
+  pub long : length sizes ≡ 192
   pub within : j ≤ rules
-  pub so-far : SizesOf pos neg j sizes
+  pub so-far : SizesOf pos neg added j sizes
 
-module _ (pos neg : List ℕ) where
-  pub sizing-start : (rules : ℕ) → Sizing pos neg rules (replicate 128 0) 0
+module _ (pos neg added : List ℕ) where
+  pub sizing-start : (rules : ℕ) → Sizing pos neg added rules (replicate 192 0) 0
   sizing-start rules =
       record {
-        long = length-replicate {A = ℕ} 128 0;
+        long = length-replicate {A = ℕ} 192 0;
         within = omega arith;
-        so-far = record { is = λ i l. absurd (omega arith); small = record { low = λ i l. let e = getD-replicate {A = ℕ} 128 i 0 0 l in omega arith } };
+        so-far = record { is = λ i l. absurd (omega arith); small = record { low = λ i l. let e = getD-replicate {A = ℕ} 192 i 0 0 l in omega arith } };
       }
 
-  pub sizing-fits : (j k : ℕ) → k ≡ bodyAtoms (getD pos j 0) (getD neg j 0) → k < 256
-  sizing-fits j k e = let f = atoms-few (getD pos j 0) (getD neg j 0) in omega arith
+  pub sizing-fits : (j k : ℕ) → k ≡ bodyAtoms (getD pos j 0) (getD neg j 0) (getD added j 0) → k < 256
+  sizing-fits j k e = let f = atoms-few (getD pos j 0) (getD neg j 0) (getD added j 0) in omega arith
 
-  module _ (rules : ℕ) (sizes : List ℕ) (j : ℕ) (S : Sizing pos neg rules sizes j) (lt : j < rules) (most : rules ≤ 128) where
-    pub sizing-turn : (k : ℕ) → k ≡ bodyAtoms (getD pos j 0) (getD neg j 0) → Sizing pos neg rules (set sizes j k) (j + 1)
+  module _ (rules : ℕ) (sizes : List ℕ) (j : ℕ) (S : Sizing pos neg added rules sizes j) (lt : j < rules) (most : rules ≤ 192) where
+    pub sizing-turn : (k : ℕ) → k ≡ bodyAtoms (getD pos j 0) (getD neg j 0) (getD added j 0) → Sizing pos neg added rules (set sizes j k) (j + 1)
     sizing-turn k e =
         record { long = length-set sizes j k ∙ S .long; within = omega arith; so-far = record { is = same; small = record { low = few } } }
       where
         index : j < length sizes
         index = let z = S .long in omega arith
 
-        same : (i : ℕ) → i < j + 1 → getD (set sizes j k) i 0 ≡ bodyAtoms (getD pos i 0) (getD neg i 0)
+        same : (i : ℕ) → i < j + 1 → getD (set sizes j k) i 0 ≡ bodyAtoms (getD pos i 0) (getD neg i 0) (getD added i 0)
         same i h =
             stored sizes j k i index
             ∙ by-bool (eqb i j)
-            (λ t. rw t (e ∙ ap (λ x. bodyAtoms (getD pos x 0) (getD neg x 0)) (sym (eqb-true i j t))))
+            (λ t. rw t (e ∙ ap (λ x. bodyAtoms (getD pos x 0) (getD neg x 0) (getD added x 0)) (sym (eqb-true i j t))))
             (λ f. rw f (let ne = eqb-false i j f in S .so-far .is i (omega arith)))
 
-        few : (i : ℕ) → i < 128 → getD (set sizes j k) i 0 ≤ 128
+        few : (i : ℕ) → i < 192 → getD (set sizes j k) i 0 ≤ 129
         few i h =
-            subst (λ x. x ≤ 128) (sym (stored sizes j k i index))
-            (by-bool (eqb i j) (λ t. rw t (let f = atoms-few (getD pos j 0) (getD neg j 0) in omega arith)) (λ f. rw f (S .so-far .small .low i h)))
+            subst (λ x. x ≤ 129) (sym (stored sizes j k i index))
+            (by-bool (eqb i j) (λ t. rw t (let f = atoms-few (getD pos j 0) (getD neg j 0) (getD added j 0) in omega arith)) (λ f. rw f (S .so-far .small .low i h)))
 
-  pub sizing-end : (rules : ℕ) (sizes : List ℕ) (j : ℕ) → Sizing pos neg rules sizes j → rules ≤ j → SizesOf pos neg rules sizes
+  pub sizing-end : (rules : ℕ) (sizes : List ℕ) (j : ℕ) → Sizing pos neg added rules sizes j → rules ≤ j → SizesOf pos neg added rules sizes
   sizing-end rules sizes j S l = record { is = λ i h. S .so-far .is i (omega arith); small = S .so-far .small }
 
   -- The sum of the sizes of some bodies.
-  pub sum-atoms : (rules : ℕ) (sizes : List ℕ) → SizesOf pos neg rules sizes → (l : List ℕ) → ((i : ℕ) → List·Memᴰ i l → i < rules)
-      → sumAt sizes l ≡ atomCount (map (λ i. bodyOf (getD pos i 0) (getD neg i 0)) l)
-  unfolding sumAt atomCount bodyOf bodyAtoms
+  pub sum-atoms : (rules : ℕ) (sizes : List ℕ) → SizesOf pos neg added rules sizes → (l : List ℕ) → ((i : ℕ) → List·Memᴰ i l → i < rules)
+      → sumAt sizes l ≡ atomCount (map (λ i. bodyOf (getD pos i 0) (getD neg i 0) (getD added i 0)) l)
+  unfolding sumAt atomCount bodyOf bodyAtoms negativeAtoms
   sum-atoms rules sizes S [] h = refl
   sum-atoms rules sizes S (i ∷ l) h =
       let e = S .is i (h i (List·Memᴰ·head refl)) in
       let f = sum-atoms rules sizes S l (λ j m. h j (List·Memᴰ·tail m)) in
+      let g = length-append (listed (getD neg i 0)) (addedAtom (getD added i 0)) in
       omega arith
 
 -- The loop over the entries whose atoms are counted.
-pub record Adding (pos neg : List ℕ) (from to atoms j : ℕ) : Type 0 where
+pub record Adding (pos neg added : List ℕ) (from to atoms j : ℕ) : Type 0 where
   pub start : from ≤ j
   pub within : j ≤ to
-  pub small : atoms + 128 * from ≤ 128 * j
-  pub rest : atoms + atomsAt pos neg j to ≡ atomsAt pos neg from to
+  pub small : atoms + 129 * from ≤ 129 * j
+  pub rest : atoms + atomsAt pos neg added j to ≡ atomsAt pos neg added from to
 
-module _ (pos neg : List ℕ) (from to : ℕ) where
-  pub adding-start : from ≤ to → Adding pos neg from to 0 from
+module _ (pos neg added : List ℕ) (from to : ℕ) where
+  pub adding-start : from ≤ to → Adding pos neg added from to 0 from
   adding-start l = record { start = omega arith; within = l; small = omega arith; rest = omega arith }
 
-  module _ (atoms j : ℕ) (K : Adding pos neg from to atoms j) where
-    pub adding-room : (n : ℕ) → j < to → to ≤ 128 → n ≡ bodyAtoms (getD pos j 0) (getD neg j 0) → atoms + n < 2 ^ 64
-    adding-room n l m e = let s = K .small in let f = atoms-few (getD pos j 0) (getD neg j 0) in omega arith
+  module _ (atoms j : ℕ) (K : Adding pos neg added from to atoms j) where
+    pub adding-room : (n : ℕ) → j < to → to ≤ 192 → n ≡ bodyAtoms (getD pos j 0) (getD neg j 0) (getD added j 0) → atoms + n < 2 ^ 64
+    adding-room n l m e = let s = K .small in let f = atoms-few (getD pos j 0) (getD neg j 0) (getD added j 0) in omega arith
 
-    pub adding-turn : (n : ℕ) → j < to → n ≡ bodyAtoms (getD pos j 0) (getD neg j 0) → Adding pos neg from to (atoms + n) (j + 1)
+    pub adding-turn : (n : ℕ) → j < to → n ≡ bodyAtoms (getD pos j 0) (getD neg j 0) (getD added j 0) → Adding pos neg added from to (atoms + n) (j + 1)
     unfolding atomsAt bodiesAt
     adding-turn n l e =
-        let first : atomsAt pos neg j to ≡ n + atomsAt pos neg (j + 1) to =
-        ap (λ es. atomCount (map (λ i. bodyOf (getD pos i 0) (getD neg i 0)) es)) (range-left j to l)
-        ∙ (atoms-append (bodyOf (getD pos j 0) (getD neg j 0) ∷ []) (bodiesAt pos neg (j + 1) (to - (j + 1)))
-        ∙ ap (λ x. x + atomsAt pos neg (j + 1) to) (atoms-one (getD pos j 0) (getD neg j 0) ∙ sym e)) in
+        let first : atomsAt pos neg added j to ≡ n + atomsAt pos neg added (j + 1) to =
+        ap (λ es. atomCount (map (λ i. bodyOf (getD pos i 0) (getD neg i 0) (getD added i 0)) es)) (range-left j to l)
+        ∙ (atoms-append (bodyOf (getD pos j 0) (getD neg j 0) (getD added j 0) ∷ []) (bodiesAt pos neg added (j + 1) (to - (j + 1)))
+        ∙ ap (λ x. x + atomsAt pos neg added (j + 1) to) (atoms-one (getD pos j 0) (getD neg j 0) (getD added j 0) ∙ sym e)) in
         record {
           start = let f = K .start in omega arith;
           within = omega arith;
-          small = let s = K .small in let f = atoms-few (getD pos j 0) (getD neg j 0) in omega arith;
+          small = let s = K .small in let f = atoms-few (getD pos j 0) (getD neg j 0) (getD added j 0) in omega arith;
           rest = let r = K .rest in omega arith;
         }
 
-    pub adding-end : to ≤ j → atoms ≡ atomsAt pos neg from to
+    pub adding-end : to ≤ j → atoms ≡ atomsAt pos neg added from to
     unfolding atomsAt bodiesAt atomCount
-    adding-end l = let r = K .rest in let none = ap (λ es. atomCount (map (λ i. bodyOf (getD pos i 0) (getD neg i 0)) es)) (range-over j to l) in omega arith
+    adding-end l = let r = K .rest in let none = ap (λ es. atomCount (map (λ i. bodyOf (getD pos i 0) (getD neg i 0) (getD added i 0)) es)) (range-over j to l) in omega arith
 
 pub listed-at : (entries : List ℕ) (k j r : ℕ) → Inside entries k → j < k → r ≡ getD entries j 0 → ListedAt entries j r
-listed-at entries k j r I l e = record { is = e; low = subst (λ x. x < 128) (sym e) (I .low j l) }
+listed-at entries k j r I l e = record { is = e; low = subst (λ x. x < 192) (sym e) (I .low j l) }
 
-pub bodies-number : (pos neg vars entries : List ℕ) (k : ℕ) → length (bodiesBy pos neg vars entries k) ≡ k
+pub bodies-number : (pos neg added vars entries : List ℕ) (k : ℕ) → length (bodiesBy pos neg added vars entries k) ≡ k
 unfolding bodiesBy
-bodies-number pos neg vars entries k = length-map (range 0 k) (λ j. entryBody pos neg vars (getD entries j 0)) ∙ length-range 0 k
+bodies-number pos neg added vars entries k = length-map (range 0 k) (λ j. entryBody pos neg added vars (getD entries j 0)) ∙ length-range 0 k

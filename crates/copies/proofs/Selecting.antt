@@ -1,6 +1,6 @@
 -- The rules that a copy keeps are those of the table's kept entries.
 use mathlib.Core.Bool.{Bool, true, not, _&&_, _||_}
-use mathlib.Core.List.{List, [], _∷_, map, map-map, List·Memᴰ, Memᴰ·map}
+use mathlib.Core.List.{List, [], _∷_, _++_, map, map-map, List·Memᴰ, Memᴰ·map}
 use mathlib.Core.Path.{_≡_, refl, sym, _∙_, ap, ap₂}
 use Prim.Native.Nat.{ℕ, _<_}
 use native.Mathlib.Omega.{arith}
@@ -16,7 +16,7 @@ use Rattle.unfolding.specs.Unfolded.{Copy, last, copied, usable, replaced, rena
 use Rattle.unfolding.proofs.Reach.{same-refl, component-smallest, component-same, component-joins}
 use Rattle.bits.specs.inner.Sets.{has}
 use Rattle.bits.specs.inner.Visited.{listed}
-use Rattle.program.specs.inner.Held.{bodyOf, ruleOf, rulesAt, programIn}
+use Rattle.program.specs.inner.Held.{addedAtom, bodyOf, ruleOf, rulesAt, programIn}
 use Rattle.program.specs.declared.ProgramTable.{ProgramTable}
 use Rattle.copies.specs.inner.Bodies.{bodyBy, entryBody, bodiesBy, atomCount}
 use Rattle.copies.specs.inner.Made.{componentSet}
@@ -52,11 +52,11 @@ module _ (t : ProgramTable) (names sets q : List ℕ) (R : Ready t names sets q)
   rule-low : (i : ℕ) → i < t .rules → below (t .atoms) (listed (getD (t .pos) i 0)) ≡ true
   unfolding programIn wellFormed ruleBelow bodyBelow rulesAt ruleOf bodyOf
   rule-low i l =
-      let rule : ℕ → Rule = λ i. ruleOf (getD (t .heads) i 0) (getD (t .pos) i 0) (getD (t .neg) i 0) in
+      let rule : ℕ → Rule = λ i. ruleOf (getD (t .heads) i 0) (getD (t .pos) i 0) (getD (t .neg) i 0) (getD (t .added) i 0) in
       let r = all-at (ruleBelow (t .atoms)) (P .rules) (and-left (all (ruleBelow (t .atoms)) (P .rules)) (all (bodyBelow (t .atoms)) (P .constraints)) wf) (rule i)
       (Memᴰ·map rule (range-in 0 (t .rules) i (omega arith) (omega arith))) in
-      let b = and-right (ltb (getD (t .heads) i 0) (t .atoms)) (bodyBelow (t .atoms) (bodyOf (getD (t .pos) i 0) (getD (t .neg) i 0))) r in
-      and-left (below (t .atoms) (listed (getD (t .pos) i 0))) (below (t .atoms) (listed (getD (t .neg) i 0))) b
+      let b = and-right (ltb (getD (t .heads) i 0) (t .atoms)) (bodyBelow (t .atoms) (bodyOf (getD (t .pos) i 0) (getD (t .neg) i 0) (getD (t .added) i 0))) r in
+      and-left (below (t .atoms) (listed (getD (t .pos) i 0))) (below (t .atoms) (listed (getD (t .neg) i 0) ++ addedAtom (getD (t .added) i 0))) b
 
   pub name-low : (a : ℕ) → a < t .atoms → getD names a 0 < 64
   unfolding programIn
@@ -77,9 +77,9 @@ module _ (t : ProgramTable) (names sets q : List ℕ) (R : Ready t names sets q)
     entries = keptEntries (t .heads) (t .pos) (t .rules) a (componentSet names sets a) copied-set
 
     abbrev body : ℕ → Body
-    body i = bodyOf (getD (t .pos) i 0) (getD (t .neg) i 0)
+    body i = bodyOf (getD (t .pos) i 0) (getD (t .neg) i 0) (getD (t .added) i 0)
 
-    same-test : (i : ℕ) → i < t .rules → isKept P past a (ruleOf (getD (t .heads) i 0) (getD (t .pos) i 0) (getD (t .neg) i 0))
+    same-test : (i : ℕ) → i < t .rules → isKept P past a (ruleOf (getD (t .heads) i 0) (getD (t .pos) i 0) (getD (t .neg) i 0) (getD (t .added) i 0))
         ≡ keeps a (componentSet names sets a) copied-set (getD (t .heads) i 0) (getD (t .pos) i 0)
     unfolding isKept keeps ruleOf bodyOf usable
     same-test i l =
@@ -94,7 +94,7 @@ module _ (t : ProgramTable) (names sets q : List ℕ) (R : Ready t names sets q)
     pub kept-are : keptFor P past a ≡ map (λ i. renamed (replaced P past a) (body i)) entries
     unfolding keptFor programIn rulesAt keptEntries ruleOf
     kept-are =
-        let rule : ℕ → Rule = λ i. ruleOf (getD (t .heads) i 0) (getD (t .pos) i 0) (getD (t .neg) i 0) in
+        let rule : ℕ → Rule = λ i. ruleOf (getD (t .heads) i 0) (getD (t .pos) i 0) (getD (t .neg) i 0) (getD (t .added) i 0) in
         ap (map (λ (r : Rule). renamed (replaced P past a) (r .body))) (filter-map (isKept P past a) rule (range 0 (t .rules)))
         ∙ (map-map (λ (r : Rule). renamed (replaced P past a) (r .body)) rule (filter (λ i. isKept P past a (rule i)) (range 0 (t .rules)))
         ∙ ap (map (λ i. renamed (replaced P past a) (body i)))
@@ -109,23 +109,23 @@ module _ (t : ProgramTable) (names sets q : List ℕ) (R : Ready t names sets q)
         let x = range-out 0 (t .rules) i f .high in
         omega arith
 
-    module _ (sizes : List ℕ) (S : SizesOf (t .pos) (t .neg) (t .rules) sizes) (r : KeptNumbers) (N : KeptCounted (t .heads) (t .pos) sizes (t .rules) a (componentSet names sets a) copied-set r) where
+    module _ (sizes : List ℕ) (S : SizesOf (t .pos) (t .neg) (t .added) (t .rules) sizes) (r : KeptNumbers) (N : KeptCounted (t .heads) (t .pos) sizes (t .rules) a (componentSet names sets a) copied-set r) where
       pub kept-number : length (keptFor P past a) ≡ r .rules
       kept-number = ap length kept-are ∙ (length-map entries (λ i. renamed (replaced P past a) (body i)) ∙ sym (N .number))
 
       pub kept-atoms : atomCount (keptFor P past a) ≡ r .atoms
-      kept-atoms = ap atomCount kept-are ∙ (atoms-renamed (replaced P past a) body entries ∙ sym (N .sum ∙ sum-atoms (t .pos) (t .neg) (t .rules) sizes S entries entry-low))
+      kept-atoms = ap atomCount kept-are ∙ (atoms-renamed (replaced P past a) body entries ∙ sym (N .sum ∙ sum-atoms (t .pos) (t .neg) (t .added) (t .rules) sizes S entries entry-low))
 
     module _ (r : KeptRules) (K : Kept (t .heads) (t .pos) (t .rules) a (componentSet names sets a) copied-set r) where
-      pub kept-bodies : (vars : List ℕ) → ((b : ℕ) → b < t .atoms → getD vars b 0 ≡ replaced P past a b) → keptFor P past a ≡ bodiesBy (t .pos) (t .neg) vars (r .entries) (r .rules)
+      pub kept-bodies : (vars : List ℕ) → ((b : ℕ) → b < t .atoms → getD vars b 0 ≡ replaced P past a b) → keptFor P past a ≡ bodiesBy (t .pos) (t .neg) (t .added) vars (r .entries) (r .rules)
       unfolding bodiesBy keptEntries entryBody bodyBy renamed bodyOf
       kept-bodies vars h =
           kept-are
-          ∙ (map-cong (λ i. renamed (replaced P past a) (body i)) (entryBody (t .pos) (t .neg) vars) entries each
-          ∙ (ap (map (entryBody (t .pos) (t .neg) vars)) (sym (K .entries)) ∙ map-map (entryBody (t .pos) (t .neg) vars) (λ j. getD (r .entries) j 0) (range 0 (r .rules))))
+          ∙ (map-cong (λ i. renamed (replaced P past a) (body i)) (entryBody (t .pos) (t .neg) (t .added) vars) entries each
+          ∙ (ap (map (entryBody (t .pos) (t .neg) (t .added) vars)) (sym (K .entries)) ∙ map-map (entryBody (t .pos) (t .neg) (t .added) vars) (λ j. getD (r .entries) j 0) (range 0 (r .rules))))
         where
-          each : (i : ℕ) → List·Memᴰ i entries → renamed (replaced P past a) (body i) ≡ entryBody (t .pos) (t .neg) vars i
+          each : (i : ℕ) → List·Memᴰ i entries → renamed (replaced P past a) (body i) ≡ entryBody (t .pos) (t .neg) (t .added) vars i
           each i m =
               let l = entry-low i m in
-              ap (λ ps. record { pos = ps; neg = map last (listed (getD (t .neg) i 0)) })
+              ap (λ ps. record { pos = ps; neg = map last (listed (getD (t .neg) i 0) ++ addedAtom (getD (t .added) i 0)) })
               (map-cong (replaced P past a) (λ b. getD vars b 0) (listed (getD (t .pos) i 0)) (λ b k. sym (h b (below-at (t .atoms) (listed (getD (t .pos) i 0)) (rule-low i l) b k))))

@@ -1,6 +1,6 @@
 -- Bounds of the unfolded program: how many bodies a copy has and how many atoms they have.
 use mathlib.Core.Bool.{Bool}
-use mathlib.Core.List.{List, [], _∷_, map, map-map, flatMap, List·Memᴰ, List·Memᴰ·head, List·Memᴰ·tail, List·Memᴰ·not-nil, List·Memᴰ·cases-cons, Memᴰ·of-map}
+use mathlib.Core.List.{List, [], _∷_, _++_, map, map-map, flatMap, List·Memᴰ, List·Memᴰ·head, List·Memᴰ·tail, List·Memᴰ·not-nil, List·Memᴰ·cases-cons, Memᴰ·of-map}
 use mathlib.Core.Logic.{⊎-elim}
 use mathlib.Core.Path.{_≡_, refl, sym, _∙_, ap, subst}
 use Prim.Native.Nat.{ℕ, _+_, _-_, _*_, _≤_}
@@ -17,22 +17,23 @@ use Rattle.unfolding.proofs.Numbering.{counted, copies-length}
 use Rattle.bits.specs.inner.Visited.{listed}
 use Rattle.bits.proofs.Visiting.{listed-few}
 use Rattle.sheet.specs.Sequence.{entries}
-use Rattle.program.specs.inner.Held.{bodyOf, ruleOf, rulesAt, bodiesAt, programIn}
+use Rattle.program.specs.inner.Held.{addedAtom, bodyOf, ruleOf, rulesAt, bodiesAt, programIn}
 use Rattle.program.specs.declared.ProgramTable.{ProgramTable}
 use Rattle.copies.specs.inner.Tables.{Values}
 use Rattle.copies.specs.inner.Bodies.{bodyBy, entryBody, atomCount, atomsAt}
 use Rattle.copies.specs.inner.Ready.{Ready, unfoldedIn}
 use Rattle.copies.specs.inner.Totals.{keptBodies}
 use Rattle.copies.proofs.Tables.{listed-last}
+use Rattle.copies.proofs.Keeping.{added-few}
 use Rattle.copies.proofs.Selecting.{atoms-renamed}
 
--- A body of at most 128 atoms.
+-- A body of at most 129 atoms.
 unfoldable pub Short : Body → Type 0
-Short b = length (b .pos) + length (b .neg) ≤ 128
+Short b = length (b .pos) + length (b .neg) ≤ 129
 
--- At most 128 bodies of at most 128 atoms each.
+-- At most 192 bodies of at most 129 atoms each.
 pub record Sized (bs : List Body) : Type 0 where
-  pub few : length bs ≤ 128
+  pub few : length bs ≤ 192
   pub short : (b : Body) → List·Memᴰ b bs → Short b
 
 -- Lists that are each at most k long, one behind the other.
@@ -51,19 +52,21 @@ unfolding filter
 filter-size p [] = omega arith
 filter-size p (x ∷ l) = let h = filter-size p l in by-bool (p x) (λ t. rw t (omega arith)) (λ f. rw f (omega arith))
 
--- Bodies of at most 128 atoms each.
-atoms-bound : (bs : List Body) → ((b : Body) → List·Memᴰ b bs → Short b) → atomCount bs ≤ length bs * 128
+-- Bodies of at most 129 atoms each.
+atoms-bound : (bs : List Body) → ((b : Body) → List·Memᴰ b bs → Short b) → atomCount bs ≤ length bs * 129
 unfolding atomCount Short
 atoms-bound [] h = omega arith
-atoms-bound (b ∷ bs) h = let f = h b (List·Memᴰ·head refl) in let g = atoms-bound bs (λ x m. h x (List·Memᴰ·tail m)) in let k = suc-mul (length bs) 128 in omega arith
+atoms-bound (b ∷ bs) h = let f = h b (List·Memᴰ·head refl) in let g = atoms-bound bs (λ x m. h x (List·Memᴰ·tail m)) in let k = suc-mul (length bs) 129 in omega arith
 
-renamed-short : (f : ℕ → ℕ) (pos neg : ℕ) → Short (renamed f (bodyOf pos neg))
+renamed-short : (f : ℕ → ℕ) (pos neg added : ℕ) → Short (renamed f (bodyOf pos neg added))
 unfolding renamed bodyOf Short
-renamed-short f pos neg =
-    let p = length-map (bodyOf pos neg .pos) f in
-    let n = length-map (bodyOf pos neg .neg) last in
+renamed-short f pos neg added =
+    let p = length-map (bodyOf pos neg added .pos) f in
+    let n = length-map (bodyOf pos neg added .neg) last in
     let u = listed-few pos in
     let v = listed-few neg in
+    let w = length-append (listed neg) (addedAtom added) in
+    let x = added-few added in
     omega arith
 
 module _ (t : ProgramTable) (names sets q : List ℕ) (R : Ready t names sets q) where
@@ -73,13 +76,13 @@ module _ (t : ProgramTable) (names sets q : List ℕ) (R : Ready t names sets q)
   kept-sized : (past : List Copy) (a : ℕ) → Sized (keptFor P past a)
   unfolding keptFor programIn rulesAt ruleOf
   kept-sized past a =
-      let rule : ℕ → Rule = λ i. ruleOf (getD (t .heads) i 0) (getD (t .pos) i 0) (getD (t .neg) i 0) in
+      let rule : ℕ → Rule = λ i. ruleOf (getD (t .heads) i 0) (getD (t .pos) i 0) (getD (t .neg) i 0) (getD (t .added) i 0) in
       record {
         few = let x = length-map (filter (isKept P past a) (P .rules)) (λ (r : Rule). renamed (replaced P past a) (r .body)) in let y = filter-size (isKept P past a) (P .rules) in
             let z = length-map (range 0 (t .rules)) rule in let w = length-range 0 (t .rules) in let f = R .readable .few in omega arith;
         short = λ b k. let u = Memᴰ·of-map (λ (r : Rule). renamed (replaced P past a) (r .body)) (filter (isKept P past a) (P .rules)) k in
             let w = Memᴰ·of-map rule (range 0 (t .rules)) (filter-out (isKept P past a) (P .rules) (u .0) (u .1) .0) in
-            subst Short (u .2) (subst (λ (r : Rule). Short (renamed (replaced P past a) (r .body))) (w .2) (renamed-short (replaced P past a) (getD (t .pos) (w .0) 0) (getD (t .neg) (w .0) 0)));
+            subst Short (u .2) (subst (λ (r : Rule). Short (renamed (replaced P past a) (r .body))) (w .2) (renamed-short (replaced P past a) (getD (t .pos) (w .0) 0) (getD (t .neg) (w .0) 0) (getD (t .added) (w .0) 0)));
       }
 
   copies-sized : (l : List ℕ) (e : ℕ) (past : List Copy) (c : Copy) → List·Memᴰ c (copiesFrom P e past l) → Sized (c .kept)
@@ -98,14 +101,14 @@ module _ (t : ProgramTable) (names sets q : List ℕ) (R : Ready t names sets q)
   unfolding unfoldedIn unfolded
   copies-number = copies-length P (entries q) 0 [] ∙ length-drop 3 q
 
-  pub rules-short : length (keptBodies (unfoldedIn t q .copies)) ≤ 81920
+  pub rules-short : length (keptBodies (unfoldedIn t q .copies)) ≤ 122880
   rules-short =
-      let e = flatMap-bound (λ (c : Copy). c .kept) 128 (unfoldedIn t q .copies) (λ c k. copy-sized c k .few) in
+      let e = flatMap-bound (λ (c : Copy). c .kept) 192 (unfoldedIn t q .copies) (λ c k. copy-sized c k .few) in
       let f = copies-number in
       let g = R .short in
       omega arith
 
-  pub atoms-short : atomCount (keptBodies (unfoldedIn t q .copies)) ≤ 10485760
+  pub atoms-short : atomCount (keptBodies (unfoldedIn t q .copies)) ≤ 15851520
   atoms-short =
       let e = atoms-bound (keptBodies (unfoldedIn t q .copies))
       (λ b k. let u = flatMap-out (λ (c : Copy). c .kept) (unfoldedIn t q .copies) b k in copy-sized (u .0) (u .1) .short b (u .2)) in
@@ -114,38 +117,38 @@ module _ (t : ProgramTable) (names sets q : List ℕ) (R : Ready t names sets q)
 
   -- The constraints.
   abbrev body : ℕ → Body
-  body i = bodyOf (getD (t .pos) i 0) (getD (t .neg) i 0)
+  body i = bodyOf (getD (t .pos) i 0) (getD (t .neg) i 0) (getD (t .added) i 0)
 
-  constraints-are : unfoldedIn t q .constraints ≡ map (λ i. renamed last (bodyOf (getD (t .pos) i 0) (getD (t .neg) i 0))) (range (t .rules) (t .constraints))
+  constraints-are : unfoldedIn t q .constraints ≡ map (λ i. renamed last (bodyOf (getD (t .pos) i 0) (getD (t .neg) i 0) (getD (t .added) i 0))) (range (t .rules) (t .constraints))
   unfolding unfoldedIn unfolded programIn bodiesAt
   constraints-are = map-map (renamed last) body (range (t .rules) (t .constraints))
 
   -- By a table of last copies.
-  pub constraints-by-last : (lasts : List ℕ) → Values last lasts → map (entryBody (t .pos) (t .neg) lasts) (range (t .rules) (t .rules + t .constraints - t .rules)) ≡ unfoldedIn t q .constraints
+  pub constraints-by-last : (lasts : List ℕ) → Values last lasts → map (entryBody (t .pos) (t .neg) (t .added) lasts) (range (t .rules) (t .rules + t .constraints - t .rules)) ≡ unfoldedIn t q .constraints
   unfolding entryBody bodyBy renamed bodyOf
   constraints-by-last lasts F =
-      ap (λ k. map (entryBody (t .pos) (t .neg) lasts) (range (t .rules) k)) (let e : t .rules + t .constraints - t .rules ≡ t .constraints = omega arith in e)
-      ∙ (map-cong (entryBody (t .pos) (t .neg) lasts) (λ i. renamed last (body i)) (range (t .rules) (t .constraints))
-      (λ i m. ap (λ ps. record { pos = ps; neg = map last (listed (getD (t .neg) i 0)) }) (listed-last lasts (getD (t .pos) i 0) F))
+      ap (λ k. map (entryBody (t .pos) (t .neg) (t .added) lasts) (range (t .rules) k)) (let e : t .rules + t .constraints - t .rules ≡ t .constraints = omega arith in e)
+      ∙ (map-cong (entryBody (t .pos) (t .neg) (t .added) lasts) (λ i. renamed last (body i)) (range (t .rules) (t .constraints))
+      (λ i m. ap (λ ps. record { pos = ps; neg = map last (listed (getD (t .neg) i 0) ++ addedAtom (getD (t .added) i 0)) }) (listed-last lasts (getD (t .pos) i 0) F))
       ∙ sym constraints-are)
 
   pub constraints-number : t .constraints ≡ length (unfoldedIn t q .constraints)
   constraints-number =
       sym (ap length constraints-are ∙ (length-map (range (t .rules) (t .constraints)) (λ i. renamed last (body i)) ∙ length-range (t .rules) (t .constraints)))
 
-  pub constraints-atoms : atomsAt (t .pos) (t .neg) (t .rules) (t .rules + t .constraints) ≡ atomCount (unfoldedIn t q .constraints)
+  pub constraints-atoms : atomsAt (t .pos) (t .neg) (t .added) (t .rules) (t .rules + t .constraints) ≡ atomCount (unfoldedIn t q .constraints)
   unfolding atomsAt bodiesAt
   constraints-atoms =
       ap (λ k. atomCount (map body (range (t .rules) k))) (let e : t .rules + t .constraints - t .rules ≡ t .constraints = omega arith in e)
       ∙ sym (ap atomCount constraints-are ∙ atoms-renamed last body (range (t .rules) (t .constraints)))
 
-  pub constraints-few : length (unfoldedIn t q .constraints) ≤ 128
+  pub constraints-few : length (unfoldedIn t q .constraints) ≤ 192
   constraints-few = let e = constraints-number in let f = R .readable .few in omega arith
 
-  pub constraints-short : atomCount (unfoldedIn t q .constraints) ≤ 16384
+  pub constraints-short : atomCount (unfoldedIn t q .constraints) ≤ 24768
   constraints-short =
       let e = atoms-bound (unfoldedIn t q .constraints)
       (λ b k. let u = Memᴰ·of-map (λ i. renamed last (body i)) (range (t .rules) (t .constraints)) (subst (λ bs. List·Memᴰ b bs) constraints-are k) in
-      subst Short (u .2) (renamed-short last (getD (t .pos) (u .0) 0) (getD (t .neg) (u .0) 0))) in
+      subst Short (u .2) (renamed-short last (getD (t .pos) (u .0) 0) (getD (t .neg) (u .0) 0) (getD (t .added) (u .0) 0))) in
       let f = constraints-few in
       omega arith

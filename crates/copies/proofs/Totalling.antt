@@ -44,7 +44,7 @@ module _ (t : ProgramTable) (names sets q : List ℕ) (R : Ready t names sets q)
       pub totalling-name : getD names a 0 < 64
       totalling-name = name-low t names sets q R a a-low
 
-      module _ (component : ℕ) (C : component ≡ componentSet names sets a) (sizes : List ℕ) (S : SizesOf (t .pos) (t .neg) (t .rules) sizes)
+      module _ (component : ℕ) (C : component ≡ componentSet names sets a) (sizes : List ℕ) (S : SizesOf (t .pos) (t .neg) (t .added) (t .rules) sizes)
           (r : KeptNumbers) (K : KeptCounted (t .heads) (t .pos) sizes (t .rules) a component copied r) where
         abbrev kept : List Body
         kept = keptFor (programIn t) (L .past) (getD q i 0)
@@ -68,7 +68,7 @@ module _ (t : ProgramTable) (names sets q : List ℕ) (R : Ready t names sets q)
             let k = kept-atoms t names sets q R (L .past) copied (L .marks) (getD q i 0) low sizes S r K′ in
             record { rules-left = omega arith; atoms-left = omega arith }
 
-        sums : (cs : List Copy) → TotalsLeft (unfoldedIn t q .copies) (rules + r .rules) (atoms + r .atoms) 0 [] cs → (rules + r .rules ≤ 81920) × (atoms + r .atoms ≤ 10485760)
+        sums : (cs : List Copy) → TotalsLeft (unfoldedIn t q .copies) (rules + r .rules) (atoms + r .atoms) 0 [] cs → (rules + r .rules ≤ 122880) × (atoms + r .atoms ≤ 15851520)
         sums cs T =
             let u = T .rules-left in
             let v = T .atoms-left in
@@ -76,7 +76,7 @@ module _ (t : ProgramTable) (names sets q : List ℕ) (R : Ready t names sets q)
             let g = atoms-short t names sets q R in
             (omega arith, omega arith)
 
-        small : (rules + r .rules ≤ 81920) × (atoms + r .atoms ≤ 10485760)
+        small : (rules + r .rules ≤ 122880) × (atoms + r .atoms ≤ 15851520)
         small = sums _ (counted (unfoldedIn t q .copies) _ _ _ _ (copies-here t q i copied (TotalsLeft (unfoldedIn t q .copies) rules atoms) L within) 0 [])
 
         pub totalling-rules : rules + r .rules < 2 ^ 64
@@ -98,7 +98,7 @@ module _ (t : ProgramTable) (names sets q : List ℕ) (R : Ready t names sets q)
         all-counted T = let e = T .rules-left in let f = T .atoms-left in record { rules = omega arith; atoms = omega arith }
 
   -- All totals.
-  pub totals-are : (k : Totals) (literals : ℕ) → KeptTotals (unfoldedIn t q) k → literals ≡ atomsAt (t .pos) (t .neg) (t .rules) (t .rules + t .constraints)
+  pub totals-are : (k : Totals) (literals : ℕ) → KeptTotals (unfoldedIn t q) k → literals ≡ atomsAt (t .pos) (t .neg) (t .added) (t .rules) (t .rules + t .constraints)
       → TotalsOf (unfoldedIn t q) (record { rules = k .rules; atoms = k .atoms; constraints = t .constraints; literals = literals })
   totals-are k literals K l =
       let c = constraints-number t names sets q R in

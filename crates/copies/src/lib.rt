@@ -16,7 +16,7 @@ ghost use Rattle.lists.specs.Lists.{below};
 ghost use Rattle.unfolding.specs.Unfolded.{last};
 ghost use Rattle.sheet.specs.Sequence.{entries};
 ghost use Rattle.copies.specs.inner.Tables.{Values, Overlaid};
-ghost use Rattle.copies.specs.inner.Bodies.{bodyAtoms, atomsAt};
+ghost use Rattle.copies.specs.inner.Bodies.{negativeAtoms, bodyAtoms, atomsAt};
 ghost use Rattle.copies.specs.inner.Made.{EntryAt, LastPlaces, componentSet, Made};
 ghost use Rattle.copies.specs.inner.Kept.{keeps, Inside, ListedAt, Kept, SmallSizes, SizesOf, KeptCounted};
 ghost use Rattle.copies.specs.inner.Ready.{Ready, unfoldedIn};
@@ -138,11 +138,22 @@ fn is_kept(head: u8, pos: u64, a: usize, component: u64, copied: u64) -> bool
     subset(intersection(pos, component), copied)
 }
 
-// How many atoms a body has.
-fn body_atoms(pos: u64, neg: u64) -> usize
-    ensures { λ r. ⌜ r ≡ bodyAtoms pos neg ⌝ }
+// How many negative atoms a body has, with one that may be added.
+pub fn negative_atoms(neg: u64, added: u8) -> u32
+    ensures { λ r. ⌜ r ≡ negativeAtoms neg added ⌝ }
 {
-    size(pos) as usize + size(neg) as usize
+    let first = size(neg);
+    if added == 0 {
+        return first;
+    }
+    first + 1
+}
+
+// How many atoms a body has.
+fn body_atoms(pos: u64, neg: u64, added: u8) -> usize
+    ensures { λ r. ⌜ r ≡ bodyAtoms pos neg added ⌝ }
+{
+    size(pos) as usize + negative_atoms(neg, added) as usize
 }
 
 // The number x, with k where b holds.
@@ -158,12 +169,12 @@ fn add_if(b: bool, x: usize, k: usize) -> usize
 
 // The rules kept for a copy, by their entries in the table, and how many there are.
 pub struct KeptRules {
-    pub entries: [u8; 128],
+    pub entries: [u8; 192],
     pub rules: usize,
 }
 
 // The j-th of k entries that are listed.
-pub fn entry_at(entries: &[u8; 128], k: usize, j: usize) -> usize
+pub fn entry_at(entries: &[u8; 192], k: usize, j: usize) -> usize
     requires { ⌜ Inside (now entries) k × (j < k) ⌝ }
     ensures { λ r. ⌜ ListedAt (now (entries .entry)) j r ⌝ }
 {
@@ -172,17 +183,17 @@ pub fn entry_at(entries: &[u8; 128], k: usize, j: usize) -> usize
 
 // The rules kept for a copy of a, of the first so many entries.
 pub fn kept_rules<'a>(
-    heads: &'a [u8; 128],
-    pos: &'a [u64; 128],
+    heads: &'a [u8; 192],
+    pos: &'a [u64; 192],
     rules: usize,
     a: usize,
     component: u64,
     copied: u64,
 ) -> KeptRules
-    requires { ⌜ rules ≤ 128 ⌝ }
+    requires { ⌜ rules ≤ 192 ⌝ }
     ensures { λ r. ⌜ Kept (now (heads .entry)) (now (pos .entry)) rules a component copied r ⌝ }
 {
-    let mut entries = [0u8; 128];
+    let mut entries = [0u8; 192];
     let mut kept = 0;
     let mut j = 0;
     while j < rules {
@@ -199,18 +210,23 @@ pub fn kept_rules<'a>(
 
 // For each entry how many atoms its body has.
 pub struct BodySizes {
-    pub sizes: [u8; 128],
+    pub sizes: [u8; 192],
 }
 
 // The sizes of the first so many bodies.
-fn body_sizes<'a>(pos: &'a [u64; 128], neg: &'a [u64; 128], rules: usize) -> BodySizes
-    requires { ⌜ rules ≤ 128 ⌝ }
-    ensures { λ r. ⌜ SizesOf (now (pos .entry)) (now (neg .entry)) rules (r .sizes) ⌝ }
+fn body_sizes<'a>(
+    pos: &'a [u64; 192],
+    neg: &'a [u64; 192],
+    added: &'a [u8; 192],
+    rules: usize,
+) -> BodySizes
+    requires { ⌜ rules ≤ 192 ⌝ }
+    ensures { λ r. ⌜ SizesOf (now (pos .entry)) (now (neg .entry)) (now (added .entry)) rules (r .sizes) ⌝ }
 {
-    let mut sizes = [0u8; 128];
+    let mut sizes = [0u8; 192];
     let mut j = 0;
     while j < rules {
-        sizes[j] = body_atoms(pos[j], neg[j]) as u8;
+        sizes[j] = body_atoms(pos[j], neg[j], added[j]) as u8;
         j += 1;
     }
     BodySizes { sizes }
@@ -224,15 +240,15 @@ pub struct KeptNumbers {
 
 // The numbers for a copy of a, of the first so many entries.
 fn kept_numbers<'a>(
-    heads: &'a [u8; 128],
-    pos: &'a [u64; 128],
-    sizes: &'a [u8; 128],
+    heads: &'a [u8; 192],
+    pos: &'a [u64; 192],
+    sizes: &'a [u8; 192],
     rules: usize,
     a: usize,
     component: u64,
     copied: u64,
 ) -> KeptNumbers
-    requires { ⌜ (rules ≤ 128) × SmallSizes (now sizes) ⌝ }
+    requires { ⌜ (rules ≤ 192) × SmallSizes (now sizes) ⌝ }
     ensures { λ r. ⌜ KeptCounted (now (heads .entry)) (now (pos .entry)) (now (sizes .entry)) rules a component copied r ⌝ }
 {
     let mut kept = 0;
@@ -261,7 +277,7 @@ fn kept_totals(t: ProgramTable, q: &[u8], names: &[u8; 64], sets: &[u64; 64]) ->
     ensures { λ r. ⌜ KeptTotals (unfoldedIn t (now (q .entry))) r ⌝ }
 {
     let count = t.rules;
-    let table = body_sizes(&t.pos, &t.neg, count);
+    let table = body_sizes(&t.pos, &t.neg, &t.added, count);
     let sizes = table.sizes;
     let mut copied: u64 = 0;
     let mut rules = 0;
@@ -285,14 +301,20 @@ fn kept_totals(t: ProgramTable, q: &[u8], names: &[u8; 64], sets: &[u64; 64]) ->
 }
 
 // How many atoms the bodies of the entries from .. to - 1 have.
-fn atoms_at<'a>(pos: &'a [u64; 128], neg: &'a [u64; 128], from: usize, to: usize) -> usize
-    requires { ⌜ (from ≤ to) × (to ≤ 128) ⌝ }
-    ensures { λ r. ⌜ r ≡ atomsAt (now (pos .entry)) (now (neg .entry)) from to ⌝ }
+fn atoms_at<'a>(
+    pos: &'a [u64; 192],
+    neg: &'a [u64; 192],
+    added: &'a [u8; 192],
+    from: usize,
+    to: usize,
+) -> usize
+    requires { ⌜ (from ≤ to) × (to ≤ 192) ⌝ }
+    ensures { λ r. ⌜ r ≡ atomsAt (now (pos .entry)) (now (neg .entry)) (now (added .entry)) from to ⌝ }
 {
     let mut atoms = 0;
     let mut j = from;
     while j < to {
-        atoms += body_atoms(pos[j], neg[j]);
+        atoms += body_atoms(pos[j], neg[j], added[j]);
         j += 1;
     }
     atoms
@@ -305,7 +327,7 @@ pub fn totals_of(t: ProgramTable, q: &[u8], names: &[u8; 64], sets: &[u64; 64]) 
 {
     let from = t.rules;
     let constraints = t.constraints;
-    let literals = atoms_at(&t.pos, &t.neg, from, from + constraints);
+    let literals = atoms_at(&t.pos, &t.neg, &t.added, from, from + constraints);
     let kept = kept_totals(t, q, names, sets);
     Totals {
         rules: kept.rules,

@@ -15,7 +15,7 @@ use Rattle.sheet.specs.declared.Limits.{Limits}
 use Rattle.sheet.proofs.Records.{then-zero, then-refused}
 use Rattle.core.specs.Outcome.{Outcome, refused, answered, outcome, filled}
 use Rattle.core.specs.Outputs.{componentsOutput, defaultOutput, unfoldedOutput, clausesOutput}
-use Rattle.core.specs.Questions.{question1, question2, question3, question7, question8, question9, readQuestions, testQuestions}
+use Rattle.core.specs.Questions.{question1, question2, question3, question13, question7, question8, question9, readQuestions, testQuestions}
 use Rattle.core.specs.Questions.{bodyQuestions, componentsQuestions, defaultQuestions, unfoldedQuestions, clausesQuestions, countQuestions}
 use Rattle.core.specs.Promises.{readOutcome, ReadPromise, bodyOutcome, BodyPromise, componentsOutcome, ComponentsPromise, defaultOutcome, DefaultPromise}
 use Rattle.core.specs.Promises.{testOutcome, TestPromise, unfoldedOutcome, UnfoldedPromise, clausesOutcome, ClausesPromise, countOutcome, CountPromise}
@@ -90,7 +90,8 @@ unfolding first sheetAsked readQuestions
 sheet-first L s =
     let rs = recordsAsked (recordsByte s) (atomsByte s) s 5 in
     ap (λ r. question1 s then (question2 s then (question3 L s then r)))
-    (first-append rs (question7 L s ∷ []) ∙ ap₂ _then_ (records-first (recordsByte s) (atomsByte s) s 5) (then-none (question7 L s)))
+    (first-append rs (question13 L s ∷ question7 L s ∷ [])
+    ∙ ap₂ (λ r q. r then (question13 L s then q)) (records-first (recordsByte s) (atomsByte s) s 5) (then-none (question7 L s)))
 
 -- One question behind those about the sheet.
 one-first : (L : Limits) (s : List ℕ) (k : ℕ) → first (sheetAsked L s ++ (k ∷ [])) ≡ readQuestions L s then k

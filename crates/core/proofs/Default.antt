@@ -16,12 +16,11 @@ use Rattle.unfolding.specs.Default.{members, defaultSequence}
 use Rattle.unfolding.proofs.Chains.{passes-iff}
 use Rattle.unfolding.proofs.Default.{default-passes, default-short, default-below}
 use Rattle.sheet.specs.Questions.{ask}
-use Rattle.sheet.specs.Format.{atomsByte}
-use Rattle.sheet.specs.Sheet.{programOf, program}
+use Rattle.sheet.specs.Sheet.{program}
 use Rattle.sheet.specs.Sequence.{entriesField, entries, sequenceFits}
 use Rattle.sheet.specs.declared.Limits.{Limits}
 use Rattle.sheet.proofs.Records.{ask-yes, then-zero}
-use Rattle.sheet.proofs.Walk.{formed, program-formed}
+use Rattle.choice.proofs.Sheets.{program-formed}
 use Rattle.components.specs.Limit.{componentsFit}
 use Rattle.core.specs.Outputs.{sequenceBytes, defaultOutput}
 use Rattle.core.specs.Questions.{question9, readQuestions}
@@ -36,21 +35,21 @@ module _ (L : Limits) (s : List ℕ) (accepted : readQuestions L s ≡ 0) where
   passed = read-passed L s accepted
 
   -- The length of the default sequence of a sheet that questions 1 to 7 pass.
-  pub default-length : length (defaultSequence (program s)) ≤ L .component * atomsByte s
-  unfolding componentsFit program programOf
+  pub default-length : length (defaultSequence (program s)) ≤ L .component * program s .atoms
+  unfolding componentsFit
   default-length =
       default-short (program s) (L .component) (λ c l. leb-true (length (members (program s) c)) (L .component)
-      (all-at (λ c. leb (length (members (program s) c)) (L .component)) (range 0 (atomsByte s)) (passed .components) c (range-in 0 (atomsByte s) c (omega arith) (omega arith))))
+      (all-at (λ c. leb (length (members (program s) c)) (L .component)) (range 0 (program s .atoms)) (passed .components) c (range-in 0 (program s .atoms) c (omega arith) (omega arith))))
 
   module _ (enough : L .component * L .atoms ≤ L .entries) (two-bytes : L .entries < 65536) where
     few : length (defaultSequence (program s)) ≤ L .entries
     few =
         let a = default-length in
-        let b = mul-le-mul-left (L .component) (formed L s (passed .form) .atoms) in
+        let b = mul-le-mul-left (L .component) (passed .atoms) in
         omega arith
 
-    eighth : sequenceFits L (atomsByte s) (defaultOutput s) ≡ true
-    unfolding sequenceFits defaultOutput sequenceBytes program programOf
+    eighth : sequenceFits L (program s .atoms) (defaultOutput s) ≡ true
+    unfolding sequenceFits defaultOutput sequenceBytes
     eighth =
         let t = length (defaultSequence (program s)) in
         let k = few in

@@ -19,22 +19,27 @@ use Rattle.unfolding.specs.Clauses.{readWords}
 use Rattle.unfolding.specs.Faithful.{clausesOf, variablesOf}
 use Rattle.unfolding.specs.Claims as claims
 use Rattle.unfolding.proofs.Chains.{passes-iff}
-use Rattle.unfolding.proofs.Claims.{clauses-are-faithful, literals-are-numbered, words-are-clauses, words-are-unfolded, words-have-no-loop}
+use Rattle.unfolding.proofs.Claims.{literals-are-numbered, words-are-clauses, words-are-unfolded, words-have-no-loop}
 use Rattle.sheet.specs.Questions.{ask, _then_}
 use Rattle.sheet.specs.Sequence.{entries}
-use Rattle.sheet.specs.Sheet.{program}
+use Rattle.sheet.specs.Format.{atomsByte}
+use Rattle.sheet.specs.inner.Walk.{AllSound}
+use Rattle.sheet.specs.Sheet.{records, program}
 use Rattle.sheet.specs.declared.Limits.{Limits}
 use Rattle.sheet.proofs.Records.{then-zero, ask-yes}
-use Rattle.sheet.proofs.Walk.{then-passed}
+use Rattle.sheet.proofs.Walk.{then-passed, records-sound}
+use Rattle.choice.specs.Written.{WrittenFaithful}
+use Rattle.choice.proofs.Number.{cuts, cuts-listed, count-written}
 use Rattle.core.specs.Outcome.{Outcome, refused, answered, code}
 use Rattle.core.specs.Outputs.{unfoldedOutput, clausesOutput, clauseNumbers}
-use Rattle.core.specs.Questions.{question8, question9, question10}
+use Rattle.core.specs.Questions.{question8, question9, question10, readQuestions}
 use Rattle.core.specs.Calls.{Call, Buffer, unsigned, signed, over, sheetAsked, questions, AllYes, values, written, Service, Promised}
 use Rattle.core.specs.Calls as call
 use Rattle.core.specs.Demands.{Decided, refuses, answers, Demand1, AnswerSetsCounted, UnfoldedWords, ClauseWords, Demand2}
 use Rattle.core.specs.Demands.{Accepted, AsFarAsChains, Numbered, NineIsChains, Demand3}
-use Rattle.core.proofs.Calls.{first, first-append, first-yes, yes-first, no-first, sheet-first, demand-1}
-use Rattle.core.proofs.Testing.{program-accepted, both-accepted}
+use Rattle.core.proofs.Calls.{first, first-append, first-yes, yes-first, no-first, sheet-first, test-first, demand-1}
+use Rattle.core.proofs.Chains.{read-passed}
+use Rattle.core.proofs.Testing.{program-accepted, both-accepted, test-faithful}
 
 -- A call that is answered: every question is answered by a yes, these are its values, and the buffer holds the output.
 pub record Succeeded (L : Limits) (c : Call) (vs : List ℕ) (b : Buffer) : Type 0 where
@@ -60,8 +65,14 @@ module _ (L : Limits) (s more : List ℕ) (y : AllYes (sheetAsked L s ++ more)) 
   parted : (first (sheetAsked L s) ≡ 0) × (first more ≡ 0)
   parted = then-passed (first (sheetAsked L s)) (first more) (sym (first-append (sheetAsked L s) more) ∙ yes-first (sheetAsked L s ++ more) y)
 
+  read-accepted : readQuestions L s ≡ 0
+  read-accepted = sym (sheet-first L s) ∙ parted .0
+
   formed : wellFormed (program s) ≡ true
-  formed = program-accepted L s (sym (sheet-first L s) ∙ parted .0)
+  formed = program-accepted L s read-accepted
+
+  sheet-sound : AllSound (atomsByte s) (records s)
+  sheet-sound = records-sound L s (read-passed L s read-accepted .form)
 
 -- Where the chain question gets a yes, whatever is asked behind it, testing accepts: a well-formed program and a sequence of its atoms that has every chain.
 module _ (L : Limits) (s q rest : List ℕ) (y : AllYes (sheetAsked L s ++ (question8 L s q ∷ question9 s q ∷ rest))) where
@@ -83,20 +94,28 @@ module _ (L : Limits) (s q rest : List ℕ) (y : AllYes (sheetAsked L s ++ (ques
   accepted-both = both-accepted L s q (sym (sheet-first L s) ∙ parted L s _ y .0) (eighth .0) ninth
 
 -- Counting.
-counted-exact : (L : Limits) (s counted : List ℕ) (b : Buffer) → Succeeded L (call.count s) counted b → AnswerSetsCounted (program s) counted
-unfolding questions values
+counted-exact : (L : Limits) (s counted : List ℕ) (b : Buffer) → Succeeded L (call.count s) counted b → AnswerSetsCounted (atomsByte s) (program s) counted
+unfolding questions values program
 counted-exact L s counted b K =
     let wf = formed L s _ (K .yeses) in
     let listed = stable-are-listed (program s) wf in
     let same = stable-is-answer-set (program s) wf in
+    let sound = sheet-sound L s _ (K .yeses) in
     record {
-      list = stableModels (program s);
-      listed = record {
-        distinct = listed .distinct;
-        sound = λ X m. same X .0 (listed .sound X m);
-        complete = λ X A. listed .complete X (same X .1 A);
+      answer-sets = record {
+        list = stableModels (program s);
+        listed = record {
+          distinct = listed .distinct;
+          sound = λ X m. same X .0 (listed .sound X m);
+          complete = λ X A. listed .complete X (same X .1 A);
+        };
+        exact = λ l E. K .same ∙ ap (λ k. k ∷ code (verdict k) ∷ []) (sym (count-is-answer-sets (program s) wf l E));
       };
-      exact = λ l E. K .same ∙ ap (λ k. k ∷ code (verdict k) ∷ []) (sym (count-is-answer-sets (program s) wf l E));
+      projections = record {
+        list = cuts (atomsByte s) (records s) sound;
+        listed = cuts-listed (atomsByte s) (records s) sound;
+        exact = λ l E. K .same ∙ ap (λ k. k ∷ code (verdict k) ∷ []) (sym (count-written (atomsByte s) (records s) sound l E));
+      };
     }
 
 -- The output is the beginning of the buffer.
@@ -145,6 +164,10 @@ module _ (L : Limits) (s q : List ℕ) (old new : List ℤ) (l v c : ℕ) (K : S
       subst (Numbered (readWords (take l new))) number
       (subst (λ cs. Numbered cs (variablesOf (program s) (entries q))) (sym clauses-back) (literals-are-numbered (program s) (entries q) clauses-accepted))
 
+-- Over the written atoms.
+written-faithful : (L : Limits) (s q : List ℕ) → Accepted L s q → WrittenFaithful (atomsByte s) (program s) (entries q)
+written-faithful L s q y = test-faithful L s q (sym (test-first L s q) ∙ yes-first (questions L (call.test s q)) y)
+
 -- The chain question in a call that asks `rest` behind it.
 module _ (L : Limits) (s q rest : List ℕ) (c : Call) (is : questions L c ≡ sheetAsked L s ++ (question8 L s q ∷ question9 s q ∷ rest))
     (other : first rest ≡ 9 → ⊥) (far : AsFarAsChains L s q) where
@@ -189,7 +212,7 @@ module _ (L : Limits) (S : Service) (D : Demand1 L S) where
   unfolding questions
   demand-3-of =
       record {
-        faithful = λ s q y. clauses-are-faithful (program s) (entries q) (accepted-both L s q [] y);
+        faithful = λ s q y. written-faithful L s q y;
         numbered = λ s q y. literals-are-numbered (program s) (entries q) (accepted-both L s q [] y);
         accepted = λ s q old new l v c A. test-accepts L s q _ (succeeded _ _ _ A .yeses);
         written = λ s q old new l v c A. clauses-numbered L s q old new l v c (succeeded _ _ _ A);

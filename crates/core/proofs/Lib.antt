@@ -9,3 +9,4 @@ pub mod Writing
 pub mod Testing
 pub mod Unfolding
 pub mod Demands
+pub mod Claims

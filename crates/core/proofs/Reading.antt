@@ -25,7 +25,6 @@ use Rattle.core.specs.inner.Asked.{SheetAsked}
 use Rattle.core.specs.declared.BodyAnswer.the-variants as body
 use Rattle.core.specs.declared.BodyPlace.{BodyPlace}
 use Rattle.core.specs.declared.ReadAnswer.the-variants as read
-use Rattle.core.proofs.Asking.{held-atoms}
 use Rattle.core.proofs.Outcomes.{outcome-refused, outcome-answered}
 
 module _ (L : Limits) (s : List ℕ) (r : Asked) (A : SheetAsked L s r) where
@@ -33,14 +32,14 @@ module _ (L : Limits) (s : List ℕ) (r : Asked) (A : SheetAsked L s r) where
   unfolding ReadPromise readOutcome
   read-refused ne = outcome-refused (readQuestions L s) (r .refusal) (atomsByte s ∷ recordsByte s ∷ []) (A .says) ne
 
-  pub read-header : r .refusal ≡ 0 → ReadPromise L s (read.Header (r .program .atoms) (r .records))
+  pub read-header : r .refusal ≡ 0 → ReadPromise L s (read.Header (r .written) (r .records))
   unfolding ReadPromise readOutcome
   read-header z =
       let K = A .accepted z in
-      rw (held-atoms L s r K, K .number) (outcome-answered (readQuestions L s) (atomsByte s ∷ recordsByte s ∷ []) (sym (A .says) ∙ z))
+      rw (K .written, K .number) (outcome-answered (readQuestions L s) (atomsByte s ∷ recordsByte s ∷ []) (sym (A .says) ∙ z))
 
-  pub walk-accepted : r .refusal ≡ 0 → Walk s (r .program .atoms) (r .records) 5
-  walk-accepted z = let K = A .accepted z in rw (held-atoms L s r K, K .number) (formed L s (K .form) .walk)
+  pub walk-accepted : r .refusal ≡ 0 → Walk s (r .written) (r .records) 5
+  walk-accepted z = let K = A .accepted z in rw (K .written, K .number) (formed L s (K .form) .walk)
 
 -- Going on to a record.
 pub record Going (s : List ℕ) (n number left at i : ℕ) : Type 0 where

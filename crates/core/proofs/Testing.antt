@@ -8,13 +8,17 @@ use Rattle.asp.specs.Program.{wellFormed}
 use Rattle.unfolding.specs.Chain.{passes}
 use Rattle.unfolding.specs.Claims.{Accepted}
 use Rattle.unfolding.proofs.Chains.{passes-iff}
+use Rattle.unfolding.proofs.Claims.{clauses-are-faithful}
 use Rattle.sheet.specs.Questions.{_then_}
-use Rattle.sheet.specs.Format.{atomsByte}
 use Rattle.sheet.specs.Sequence.{entries, sequenceFits}
-use Rattle.sheet.specs.Sheet.{programOf, program}
+use Rattle.sheet.specs.Format.{atomsByte}
+use Rattle.sheet.specs.Sheet.{records, program}
 use Rattle.sheet.specs.declared.Limits.{Limits}
 use Rattle.sheet.proofs.Sequences.{fits-out}
-use Rattle.sheet.proofs.Walk.{program-formed, ask-passed, then-passed}
+use Rattle.sheet.proofs.Walk.{ask-passed, then-passed, records-sound}
+use Rattle.choice.specs.Written.{WrittenFaithful}
+use Rattle.choice.proofs.Unique.{faithful-over-written}
+use Rattle.choice.proofs.Sheets.{program-formed}
 use Rattle.core.specs.Questions.{question8, question9, readQuestions, testQuestions}
 use Rattle.core.specs.Promises.{testOutcome, TestPromise}
 use Rattle.core.specs.inner.Asked.{BothAsked}
@@ -37,12 +41,11 @@ program-accepted L s z = program-formed L s (read-passed L s z .form)
 
 -- What testing accepts is a well-formed program and a sequence of its atoms that has every chain.
 pub both-accepted : (L : Limits) (s q : List ℕ) → readQuestions L s ≡ 0 → question8 L s q ≡ 0 → question9 s q ≡ 0 → Accepted (program s) (entries q)
-unfolding program programOf
 both-accepted L s q z e n =
     let wf = program-accepted L s z in
     record {
       program = wf;
-      entries = fits-out L (atomsByte s) q (ask-passed (sequenceFits L (atomsByte s) q) 8 (λ e. omega arith) e) .low;
+      entries = fits-out L (program s .atoms) q (ask-passed (sequenceFits L (program s .atoms) q) 8 (λ e. omega arith) e) .low;
       found = passes-iff (program s) wf (entries q) .0 (ask-passed (passes (program s) (entries q)) 9 (λ e. omega arith) n);
     }
 
@@ -51,3 +54,10 @@ test-accepted L s q z =
     let a = then-passed (readQuestions L s) (question8 L s q then question9 s q) (sym (test-asked L s q) ∙ z) in
     let b = then-passed (question8 L s q) (question9 s q) (a .1) in
     both-accepted L s q (a .0) (b .0) (b .1)
+
+-- Its clauses are faithful over the written atoms.
+pub test-faithful : (L : Limits) (s q : List ℕ) → testQuestions L s q ≡ 0 → WrittenFaithful (atomsByte s) (program s) (entries q)
+unfolding program
+test-faithful L s q z =
+    let a = then-passed (readQuestions L s) (question8 L s q then question9 s q) (sym (test-asked L s q) ∙ z) in
+    faithful-over-written (atomsByte s) (records s) (records-sound L s (read-passed L s (a .0) .form)) (entries q) (clauses-are-faithful (program s) (entries q) (test-accepted L s q z))

@@ -8,12 +8,17 @@ use lib.ListN.{length}
 use Rattle.unfolding.specs.Unfolded.{words, unfolded}
 use Rattle.unfolding.specs.Clauses.{clauses, variables, signedWords}
 use Rattle.unfolding.specs.Faithful.{clausesOf, variablesOf}
-use Rattle.sheet.specs.Format.{atomsByte}
 use Rattle.sheet.specs.Sequence.{entries}
-use Rattle.sheet.specs.Sheet.{program}
+use Rattle.sheet.specs.Sheet.{choices, programOf, program}
 use Rattle.sheet.specs.declared.Limits.{Limits}
 use Rattle.sheet.proofs.Sequences.{fits-out}
+use Rattle.sheet.proofs.Walk.{formed, records-sound}
 use Rattle.program.specs.inner.Held.{programIn}
+use Rattle.program.specs.declared.ProgramTable.{ProgramTable}
+use Rattle.program.proofs.Entries.{program-atoms}
+use Rattle.translation.specs.inner.Records.{table, recordsIn, Expandable}
+use Rattle.translation.specs.inner.Translated.{Translated}
+use Rattle.choice.proofs.Sheets.{program-formed}
 use Rattle.core.specs.declared.Asked.{Asked}
 use Rattle.writer.specs.inner.Wrote.{Wrote}
 use Rattle.copies.specs.inner.Ready.{Ready, unfoldedIn}
@@ -25,11 +30,13 @@ use Rattle.core.specs.Questions.{testQuestions}
 use Rattle.core.specs.Promises.{unfoldedOutcome, UnfoldedPromise, clausesOutcome, ClausesPromise}
 use Rattle.core.specs.declared.ClausesAnswer.the-variants as written
 use Rattle.core.specs.declared.WriteAnswer.the-variants as write
-use Rattle.core.specs.inner.Asked.{Supported, BothAsked}
-use Rattle.core.proofs.Asking.{held-atoms, named-here, grouped-here}
+use Rattle.core.specs.inner.Asked.{Supported, BothAsked, BothKept}
 use Rattle.core.proofs.Writing.{room-refused, room-full, room-done}
 
-module _ (L : Limits) (s q : List ℕ) (r : Asked) (E : BothAsked L s q r) where
+module _ (L : Limits) (s q ks hs ps ns : List ℕ) (r : Asked) (B : BothKept L s q ks hs ps ns r) where
+  E : BothAsked L s q r
+  E = B .asked
+
   pub unfolded-refused : (old : List ℕ) → (r .refusal ≡ 0 → ⊥) → UnfoldedPromise L s q old old (write.Refused (r .refusal))
   unfolding UnfoldedPromise unfoldedOutcome
   unfolded-refused old ne = room-refused (testQuestions L s q) (unfoldedOutput s q) [] old (r .refusal) (E .says) ne
@@ -38,67 +45,87 @@ module _ (L : Limits) (s q : List ℕ) (r : Asked) (E : BothAsked L s q r) where
   unfolding ClausesPromise clausesOutcome
   clauses-refused old ne = room-refused (testQuestions L s q) (clausesOutput s q) (clauseNumbers s q) old (r .refusal) (E .says) ne
 
-  module _ (z : r .refusal ≡ 0) where
-    same : programIn (r .program) ≡ program s
-    same = E .accepted z .sheet .held
+  -- The records can be made a program.
+  pub both-expandable : Supported L → r .refusal ≡ 0 → Expandable (r .written) (table (r .records) ks hs ps ns)
+  unfolding program programOf
+  both-expandable S z =
+      let K = E .accepted z .sheet in
+      let F = formed L s (K .form) in
+      let few = F .count in
+      let most = S .records in
+      let n = K .number in
+      let w = K .written in
+      let a = K .atoms in
+      let low = K .low in
+      let list = B .kept z .list in
+      let c = ap choices list in
+      record { few = omega arith; sound = rw (w, list) (records-sound L s (K .form)); low = omega arith }
 
-    pub asked-ready : Supported L → Ready (r .program) (r .components .names) (r .components .sets) q
+  module _ (z : r .refusal ≡ 0) (t : ProgramTable) (T : Translated (r .written) (recordsIn (table (r .records) ks hs ps ns)) t) where
+    same : programIn t ≡ program s
+    unfolding program
+    same = T .is ∙ ap₂ programOf (E .accepted z .sheet .written) (B .kept z .list)
+
+    pub asked-ready : Supported L → Ready t (r .components .names) (r .components .sets) q
     asked-ready S =
         let K = E .accepted z .sheet in
-        let Q = fits-out L (atomsByte s) q (E .accepted z .formed) in
+        let Q = fits-out L (program s .atoms) q (E .accepted z .formed) in
         let few = Q .few in
         let size = Q .size in
         let most = S .entries in
+        let atoms : t .atoms ≡ program s .atoms = sym (program-atoms t) ∙ ap (λ P. P .atoms) same in
+        let a = K .atoms in
+        let low = K .low in
         record {
-          readable = K .readable;
-          named = named-here L s r K;
-          grouped = grouped-here L s r K;
+          readable = record { atoms = omega arith; few = T .few; formed = rw same (program-formed L s (K .form)) };
+          named = rw same (K .graph .named);
+          grouped = rw atoms (K .graph .grouped);
           long = Q .three;
           short = omega arith;
-          low = rw (held-atoms L s r K) (Q .low);
+          low = rw atoms (Q .low);
         }
 
-    output : words (unfoldedIn (r .program) q) ≡ unfoldedOutput s q
+    output : words (unfoldedIn t q) ≡ unfoldedOutput s q
     unfolding unfoldedOutput unfoldedIn
     output = ap (λ P. words (unfolded P (entries q))) same
 
     passed : testQuestions L s q ≡ 0
     passed = sym (E .says) ∙ z
 
-    pub unfolded-full : (old : List ℕ) (k : ℕ) → k ≡ length (words (unfoldedIn (r .program) q)) → length old < k
+    pub unfolded-full : (old : List ℕ) (k : ℕ) → k ≡ length (words (unfoldedIn t q)) → length old < k
         → UnfoldedPromise L s q old old (write.Refused 10)
     unfolding UnfoldedPromise unfoldedOutcome
     unfolded-full old k e l = room-full (testQuestions L s q) (unfoldedOutput s q) [] old passed (let f = e ∙ ap length output in omega arith)
 
-    pub unfolded-room : (old : List ℕ) (k : ℕ) → k ≡ length (words (unfoldedIn (r .program) q)) → k ≤ length old → length (words (unfoldedIn (r .program) q)) ≤ length old
+    pub unfolded-room : (old : List ℕ) (k : ℕ) → k ≡ length (words (unfoldedIn t q)) → k ≤ length old → length (words (unfoldedIn t q)) ≤ length old
     unfolded-room old k e l = omega arith
 
-    pub unfolded-done : (old new : List ℕ) (k next : ℕ) → k ≡ length (words (unfoldedIn (r .program) q)) → k ≤ length old
-        → Wrote old 0 (words (unfoldedIn (r .program) q)) new next → UnfoldedPromise L s q old new (write.Length next)
+    pub unfolded-done : (old new : List ℕ) (k next : ℕ) → k ≡ length (words (unfoldedIn t q)) → k ≤ length old
+        → Wrote old 0 (words (unfoldedIn t q)) new next → UnfoldedPromise L s q old new (write.Length next)
     unfolding UnfoldedPromise unfoldedOutcome
     unfolded-done old new k next e l W =
         room-done (testQuestions L s q) (unfoldedOutput s q) [] old new next passed (let f = e ∙ ap length output in omega arith)
         (subst (λ ws. Wrote old 0 ws new next) output W)
 
-    derived : signedWords (clauses (unfoldedIn (r .program) q)) ≡ clausesOutput s q
+    derived : signedWords (clauses (unfoldedIn t q)) ≡ clausesOutput s q
     unfolding clausesOutput clausesOf unfoldedIn
     derived = ap (λ P. signedWords (clauses (unfolded P (entries q)))) same
 
-    numbers : variables (unfoldedIn (r .program) q) ∷ length (clauses (unfoldedIn (r .program) q)) ∷ [] ≡ clauseNumbers s q
+    numbers : variables (unfoldedIn t q) ∷ length (clauses (unfoldedIn t q)) ∷ [] ≡ clauseNumbers s q
     unfolding clauseNumbers clausesOf variablesOf unfoldedIn
     numbers = ap (λ P. variables (unfolded P (entries q)) ∷ length (clauses (unfolded P (entries q))) ∷ []) same
 
-    module _ (k : Numbers) (N : NumbersOf (unfoldedIn (r .program) q) k) where
+    module _ (k : Numbers) (N : NumbersOf (unfoldedIn t q) k) where
       pub clauses-full : (old : List ℤ) → length old < k .words → ClausesPromise L s q old old (written.Refused 10)
       unfolding ClausesPromise clausesOutcome
       clauses-full old l =
           room-full (testQuestions L s q) (clausesOutput s q) (clauseNumbers s q) old passed (let f = N .words ∙ ap length derived in omega arith)
 
-      pub clauses-room : (old : List ℤ) → k .words ≤ length old → length (signedWords (clauses (unfoldedIn (r .program) q))) ≤ length old
+      pub clauses-room : (old : List ℤ) → k .words ≤ length old → length (signedWords (clauses (unfoldedIn t q))) ≤ length old
       clauses-room old l = let f = N .words in omega arith
 
       pub clauses-done : (old new : List ℤ) (next : ℕ) → k .words ≤ length old
-          → Wrote old 0 (signedWords (clauses (unfoldedIn (r .program) q))) new next
+          → Wrote old 0 (signedWords (clauses (unfoldedIn t q))) new next
           → ClausesPromise L s q old new (written.Written next (k .variables) (k .clauses))
       unfolding ClausesPromise clausesOutcome
       clauses-done old new next l W =

@@ -12,8 +12,7 @@ use Rattle.lists.proofs.Nodup.{length-range}
 use Rattle.unfolding.specs.Graph.{component}
 use Rattle.unfolding.specs.Default.{block, defaultSequence}
 use Rattle.sheet.specs.Questions.{ask, _then_}
-use Rattle.sheet.specs.Format.{atomsByte}
-use Rattle.sheet.specs.Sheet.{programOf, program}
+use Rattle.sheet.specs.Sheet.{program}
 use Rattle.sheet.specs.declared.Limits.{Limits}
 use Rattle.sheet.proofs.Records.{then-refused, then-zero}
 use Rattle.core.specs.declared.Asked.{Asked}
@@ -26,7 +25,7 @@ use Rattle.core.specs.Questions.{question10, readQuestions}
 use Rattle.core.specs.Promises.{componentsOutcome, ComponentsPromise, defaultOutcome, DefaultPromise}
 use Rattle.core.specs.declared.WriteAnswer.the-variants as write
 use Rattle.core.specs.inner.Asked.{Supported, SheetAccepted, SheetAsked}
-use Rattle.core.proofs.Asking.{held-atoms, atoms-low, set-members}
+use Rattle.core.proofs.Asking.{set-members}
 use Rattle.core.proofs.Default.{default-length}
 use Rattle.core.proofs.Outcomes.{emits-refused, emits-answered}
 
@@ -73,58 +72,58 @@ module _ (L : Limits) (s : List ℕ) (r : Asked) (A : SheetAsked L s r) (z : r .
   K = A .accepted z
 
   -- The names and blocks of the table are those of the sheet's components.
-  bytes : nameBytes (r .components .names) (r .program .atoms) ≡ componentsOutput s
-  unfolding componentsOutput nameBytes program programOf
+  bytes : nameBytes (r .components .names) (r .atoms) ≡ componentsOutput s
+  unfolding componentsOutput nameBytes
   bytes =
-      let a = held-atoms L s r K in
+      let a = K .atoms in
       ap (λ n. map (λ a. getD (r .components .names) a 0) (range 0 n)) a
-      ∙ map-cong (λ a. getD (r .components .names) a 0) (component (program s)) (range 0 (atomsByte s)) (λ a m. let h = range-out 0 (atomsByte s) a m .high in K .graph .named .name a (omega arith))
+      ∙ map-cong (λ a. getD (r .components .names) a 0) (component (program s)) (range 0 (program s .atoms)) (λ a m. let h = range-out 0 (program s .atoms) a m .high in K .graph .named .name a (omega arith))
 
-  size : length (componentsOutput s) ≡ r .program .atoms
+  size : length (componentsOutput s) ≡ r .atoms
   unfolding componentsOutput
-  size = length-map (range 0 (atomsByte s)) (component (program s)) ∙ (length-range 0 (atomsByte s) ∙ sym (held-atoms L s r K))
+  size = length-map (range 0 (program s .atoms)) (component (program s)) ∙ (length-range 0 (program s .atoms) ∙ sym (K .atoms))
 
-  pub names-low : r .program .atoms ≤ 64
-  names-low = atoms-low L s r K
+  pub names-low : r .atoms ≤ 64
+  names-low = K .low
 
-  pub names-room : (old : List ℕ) → r .program .atoms ≤ length old → 0 + length (nameBytes (r .components .names) (r .program .atoms)) ≤ length old
+  pub names-room : (old : List ℕ) → r .atoms ≤ length old → 0 + length (nameBytes (r .components .names) (r .atoms)) ≤ length old
   names-room old l = let e = ap length bytes in let f = size in omega arith
 
-  pub components-full : (old : List ℕ) → length old < r .program .atoms → ComponentsPromise L s old old (write.Refused 10)
+  pub components-full : (old : List ℕ) → length old < r .atoms → ComponentsPromise L s old old (write.Refused 10)
   unfolding ComponentsPromise componentsOutcome
   components-full old l = room-full (readQuestions L s) (componentsOutput s) [] old accepted (let f = size in omega arith)
 
-  pub components-done : (old new : List ℕ) (next : ℕ) → r .program .atoms ≤ length old → Wrote old 0 (nameBytes (r .components .names) (r .program .atoms)) new next
+  pub components-done : (old new : List ℕ) (next : ℕ) → r .atoms ≤ length old → Wrote old 0 (nameBytes (r .components .names) (r .atoms)) new next
       → ComponentsPromise L s old new (write.Length next)
   unfolding ComponentsPromise componentsOutcome
   components-done old new next l W =
       room-done (readQuestions L s) (componentsOutput s) [] old new next accepted (let f = size in omega arith) (subst (λ b. Wrote old 0 b new next) bytes W)
 
-  blocks : blocksOf (r .components .sets) (r .program .atoms) ≡ defaultSequence (program s)
-  unfolding blocksOf blockOf defaultSequence block program programOf
+  blocks : blocksOf (r .components .sets) (r .atoms) ≡ defaultSequence (program s)
+  unfolding blocksOf blockOf defaultSequence block
   blocks =
-      let a = held-atoms L s r K in
-      flatMap-cong (λ c. blockOf (getD (r .components .sets) c 0)) (block (program s)) (range 0 (r .program .atoms))
-      (λ c m. let h = range-out 0 (r .program .atoms) c m .high in rw (set-members L s r K c (omega arith)) refl)
+      let a = K .atoms in
+      flatMap-cong (λ c. blockOf (getD (r .components .sets) c 0)) (block (program s)) (range 0 (r .atoms))
+      (λ c m. let h = range-out 0 (r .atoms) c m .high in rw (set-members L s r K c (omega arith)) refl)
       ∙ ap (λ n. flatMap (block (program s)) (range 0 n)) a
 
-  short : length (defaultSequence (program s)) ≤ L .component * r .program .atoms
-  short = subst (λ n. length (defaultSequence (program s)) ≤ L .component * n) (sym (held-atoms L s r K)) (default-length L s accepted)
+  short : length (defaultSequence (program s)) ≤ L .component * r .atoms
+  short = subst (λ n. length (defaultSequence (program s)) ≤ L .component * n) (sym (K .atoms)) (default-length L s accepted)
 
-  module _ (S : Supported L) (t : ℕ) (e : t ≡ length (blocksOf (r .components .sets) (r .program .atoms))) where
+  module _ (S : Supported L) (t : ℕ) (e : t ≡ length (blocksOf (r .components .sets) (r .atoms))) where
     entries-few : t ≤ 640
     entries-few =
         let b = ap length blocks in
         let f = short in
-        let k = atoms-low L s r K in
-        let g = mul-le-mul-right (r .program .atoms) (S .component) in
+        let k = K .low in
+        let g = mul-le-mul-right (r .atoms) (S .component) in
         omega arith
 
     pub entries-fit : t + 3 < 2 ^ 64
     entries-fit = let k = entries-few in omega arith
 
     pub blocks-room : (old mid : List ℕ) (at : ℕ) → t + 3 ≤ length old → Wrote old 0 (sequenceHeader t) mid at
-        → at + length (blocksOf (r .components .sets) (r .program .atoms)) ≤ length mid
+        → at + length (blocksOf (r .components .sets) (r .atoms)) ≤ length mid
     blocks-room old mid at l H = let m = H .moved in let n = wrote-length _ _ _ _ _ H in omega arith
 
     default-size : length (defaultOutput s) ≡ t + 3
@@ -136,13 +135,13 @@ module _ (L : Limits) (s : List ℕ) (r : Asked) (A : SheetAsked L s r) (z : r .
     default-full old l = room-full (readQuestions L s) (defaultOutput s) [] old accepted (let f = default-size in omega arith)
 
     pub default-done : (old mid new : List ℕ) (at next : ℕ) → t + 3 ≤ length old
-        → Wrote old 0 (sequenceHeader t) mid at → Wrote mid at (blocksOf (r .components .sets) (r .program .atoms)) new next → DefaultPromise L s old new (write.Length next)
+        → Wrote old 0 (sequenceHeader t) mid at → Wrote mid at (blocksOf (r .components .sets) (r .atoms)) new next → DefaultPromise L s old new (write.Length next)
     unfolding defaultOutput sequenceBytes DefaultPromise defaultOutcome
     default-done old mid new at next l H B =
         room-done (readQuestions L s) (defaultOutput s) [] old new next accepted (let f = default-size in omega arith)
         (subst (λ b. Wrote old 0 b new next)
         (ap (λ b. sequenceHeader t ++ b) blocks ∙ ap (λ k. sequenceHeader k ++ defaultSequence (program s)) (e ∙ ap length blocks))
-        (wrote-append old mid new (sequenceHeader t) (blocksOf (r .components .sets) (r .program .atoms)) 0 at next H B))
+        (wrote-append old mid new (sequenceHeader t) (blocksOf (r .components .sets) (r .atoms)) 0 at next H B))
 
 -- A header, byte by byte.
 pub header-written : (old a b new : List ℕ) (t x y z : ℕ) → Wrote old 0 (1 ∷ []) a x → Wrote a x (t / 256 % 256 ∷ []) b y → Wrote b y (t % 256 ∷ []) new z

@@ -12,7 +12,7 @@ use Rattle.sheet.specs.Format.{atomsByte, recordsByte, complete, kindPasses, li
 use Rattle.sheet.specs.declared.Limits.{Limits}
 use Rattle.core.specs.Outcome.{Outcome, fromRead, fromBody, fromWrite, fromTest, fromClauses, fromCount}
 use Rattle.core.specs.Outputs.{componentsOutput, defaultOutput, unfoldedOutput, clausesOutput, clauseNumbers, bodyPositives, countValues}
-use Rattle.core.specs.Questions.{question1, question2, question3, question7, question8, question9, question10, question11, questionB}
+use Rattle.core.specs.Questions.{question1, question2, question3, question13, question7, question8, question9, question10, question11, questionB}
 use Rattle.core.specs.Promises.{ReadPromise, BodyPromise, ComponentsPromise, DefaultPromise}
 use Rattle.core.specs.Promises.{TestPromise, UnfoldedPromise, ClausesPromise, CountPromise}
 use Rattle.core.specs.declared.ReadAnswer.{ReadAnswer}
@@ -55,9 +55,9 @@ unfoldable pub recordsAsked : ℕ → ℕ → List ℕ → ℕ → List ℕ
 recordsAsked zero n s at = ask (eqb at (length s)) 4 ∷ []
 recordsAsked (suc k) n s at = ask (complete s at) 4 ∷ ask (kindPasses n s at) 5 ∷ ask (listsFit n s at) 6 ∷ recordsAsked k n s (end s at)
 
--- Questions 1 to 7.
+-- Questions 1 to 6, 13 and 7.
 unfoldable pub sheetAsked : Limits → List ℕ → List ℕ
-sheetAsked L s = question1 s ∷ question2 s ∷ question3 L s ∷ (recordsAsked (recordsByte s) (atomsByte s) s 5 ++ (question7 L s ∷ []))
+sheetAsked L s = question1 s ∷ question2 s ∷ question3 L s ∷ (recordsAsked (recordsByte s) (atomsByte s) s 5 ++ (question13 L s ∷ question7 L s ∷ []))
 
 -- The questions that a call asks, in their order: 0 for a yes, its number for a no.
 unfoldable pub questions : Limits → Call → List ℕ

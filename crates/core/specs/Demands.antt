@@ -12,10 +12,12 @@ use Rattle.unfolding.specs.Chain.{Passes}
 use Rattle.unfolding.specs.Unfolded.{NoPositiveLoop, unfolded}
 use Rattle.unfolding.specs.Decoded.{readUnfolded, nameless}
 use Rattle.unfolding.specs.Clauses.{Literal, Clause, variableOf, readWords}
-use Rattle.unfolding.specs.Faithful.{clausesOf, variablesOf, Faithful}
+use Rattle.unfolding.specs.Faithful.{clausesOf, variablesOf}
+use Rattle.sheet.specs.Format.{atomsByte}
 use Rattle.sheet.specs.Sequence.{entries}
 use Rattle.sheet.specs.Sheet.{program}
 use Rattle.sheet.specs.declared.Limits.{Limits}
+use Rattle.choice.specs.Written.{ProjectedAnswerSet, WrittenFaithful}
 use Rattle.core.specs.Outcome.{Outcome, refused, answered, code}
 use Rattle.core.specs.Outputs.{defaultOutput}
 use Rattle.core.specs.Questions.{question8}
@@ -31,11 +33,16 @@ pub data Decided (L : Limits) (c : Call) (o : Outcome) (b : Buffer) : Type 0 whe
 abbrev pub Demand1 : Limits → Service → Type 0
 Demand1 L S = (c : Call) (o : Outcome) (b : Buffer) → S c o b → Decided L c o b
 
--- The count and the verdict of document 000: there is a list of exactly the answer sets, each once, and these are its length and the verdict on it.
-pub record AnswerSetsCounted (P : Program) (counted : List ℕ) : Type 0 where
+-- There is a list of exactly the states with the property, each once, and these are its length and the verdict on it.
+pub record Counts (S : State → Type 0) (counted : List ℕ) : Type 0 where
   pub list : List State
-  pub listed : Enumerates (IsAnswerSet P) list
-  pub exact : (l : List State) → Enumerates (IsAnswerSet P) l → counted ≡ length l ∷ code (verdict (length l)) ∷ []
+  pub listed : Enumerates S list
+  pub exact : (l : List State) → Enumerates S l → counted ≡ length l ∷ code (verdict (length l)) ∷ []
+
+-- The count and the verdict of document 000: those of the answer sets, and of their different cuts to the n written atoms.
+pub record AnswerSetsCounted (n : ℕ) (P : Program) (counted : List ℕ) : Type 0 where
+  pub answer-sets : Counts (IsAnswerSet P) counted
+  pub projections : Counts (ProjectedAnswerSet n P) counted
 
 -- The words of the unfolded program that document 01 derives: read back they are it, and it has no positive loop.
 pub record UnfoldedWords (s q words : List ℕ) : Type 0 where
@@ -51,7 +58,7 @@ pub record ClauseWords (s q : List ℕ) (words : List ℤ) (v c : ℕ) : Type 0 
 -- Demand 2.
 pub record Demand2 (L : Limits) (S : Service) : Type 0 where
   -- The count and the verdict on a sheet that counting does not refuse.
-  pub counted : (s counted : List ℕ) (b : Buffer) → S (call.count s) (answered counted) b → AnswerSetsCounted (program s) counted
+  pub counted : (s counted : List ℕ) (b : Buffer) → S (call.count s) (answered counted) b → AnswerSetsCounted (atomsByte s) (program s) counted
   -- The l words of the unfolded program.
   pub unfolds : (s q old new : List ℕ) (l : ℕ) → S (call.unfolded s q old) (answered (l ∷ [])) (unsigned new) → UnfoldedWords s q (take l new)
   -- The l words of its clauses, with the numbers of variables and of clauses.
@@ -76,8 +83,9 @@ NineIsChains S c s q = (o : Outcome) (b : Buffer) → S c o b → (o ≡ refused
 
 -- Demand 3.
 pub record Demand3 (L : Limits) (S : Service) : Type 0 where
-  -- The models of the clauses derived, cut, are exactly the stable models, one model for each, and the clauses name these variables alone.
-  pub faithful : (s q : List ℕ) → Accepted L s q → Faithful (program s) (entries q)
+  -- The models of the clauses derived, cut to the written atoms, are exactly the stable models cut to the same, one model for each, and the clauses
+  -- name these variables alone.
+  pub faithful : (s q : List ℕ) → Accepted L s q → WrittenFaithful (atomsByte s) (program s) (entries q)
   pub numbered : (s q : List ℕ) → Accepted L s q → Numbered (clausesOf (program s) (entries q)) (variablesOf (program s) (entries q))
   -- Where clauses are written, whatever the room, this holds of them: testing accepts, and the words' literals are numbered up to the v answered.
   pub accepted : (s q : List ℕ) (old new : List ℤ) (l v c : ℕ) → S (call.clauses s q old) (answered (l ∷ v ∷ c ∷ [])) (signed new) → Accepted L s q

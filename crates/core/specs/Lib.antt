@@ -4,4 +4,5 @@ pub mod Questions
 pub mod Promises
 pub mod Calls
 pub mod Demands
+pub mod Claims
 pub mod inner

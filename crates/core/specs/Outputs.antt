@@ -10,14 +10,14 @@ use Rattle.unfolding.specs.Default.{defaultSequence}
 use Rattle.unfolding.specs.Unfolded.{words, unfolded}
 use Rattle.unfolding.specs.Clauses.{signedWords}
 use Rattle.unfolding.specs.Faithful.{clausesOf, variablesOf}
-use Rattle.sheet.specs.Format.{atomsByte, positives, end, part}
+use Rattle.sheet.specs.Format.{positives, end, part}
 use Rattle.sheet.specs.Sequence.{entries}
 use Rattle.sheet.specs.Sheet.{program}
 use Rattle.core.specs.Outcome.{code}
 
--- Components: for each atom the smallest atom of its component.
+-- Components: for each atom, written or fresh, the smallest atom of its component.
 unfoldable pub componentsOutput : List ℕ → List ℕ
-componentsOutput s = map (component (program s)) (range 0 (atomsByte s))
+componentsOutput s = map (component (program s)) (range 0 (program s .atoms))
 
 -- A sequence's header: version 1, the number of entries in two bytes, big-endian.
 abbrev pub sequenceHeader : ℕ → List ℕ

@@ -21,7 +21,7 @@ use Rattle.core.specs.declared.TestAnswer.{TestAnswer}
 use Rattle.core.specs.declared.ClausesAnswer.{ClausesAnswer}
 use Rattle.core.specs.declared.CountAnswer.{CountAnswer}
 
--- Reading: the numbers of atoms and of records.
+-- Reading: the numbers of written atoms and of records.
 unfoldable pub readOutcome : Limits → List ℕ → Outcome
 readOutcome L s = outcome (readQuestions L s) (atomsByte s ∷ recordsByte s ∷ [])
 

@@ -1,17 +1,17 @@
 -- The questions ("The questions" of document 01), and for each operation the chain of those that it asks, in their order.
 -- Each is 0 for a yes and its number for a no.
 use mathlib.Core.List.{List}
-use Prim.Native.Nat.{ℕ}
+use Prim.Native.Nat.{ℕ, _+_}
 use lib.Dec.{leb, ltb}
 use lib.ListN.{length}
 use Rattle.unfolding.specs.Chain.{passes}
 use Rattle.sheet.specs.Questions.{ask, _then_}
 use Rattle.sheet.specs.Format.{atomsByte, recordsByte, opens, measured, limited, recordsQuestions}
 use Rattle.sheet.specs.Sequence.{sequenceFits, entries}
-use Rattle.sheet.specs.Sheet.{program}
+use Rattle.sheet.specs.Sheet.{records, choices, program}
 use Rattle.sheet.specs.declared.Limits.{Limits}
 use Rattle.components.specs.Limit.{componentsFit}
-use Rattle.counting.specs.Negated.{negatedAtoms}
+use Rattle.counting.specs.DecisionAtoms.{decisionAtoms}
 use Rattle.core.specs.Outputs.{componentsOutput, defaultOutput, unfoldedOutput, clausesOutput}
 
 -- 1: at least 5 bytes, the first being 1.
@@ -30,13 +30,17 @@ question3 L s = ask (limited L s) 3
 abbrev pub questions4to6 : List ℕ → ℕ
 questions4to6 s = recordsQuestions (recordsByte s) (atomsByte s) s 5
 
+-- 13: the written atoms and the fresh ones, one for each choice rule, are within the limit.
+abbrev pub question13 : Limits → List ℕ → ℕ
+question13 L s = ask (leb (atomsByte s + choices (records s)) (L .atoms)) 13
+
 -- 7: no component has more atoms than the limit.
 abbrev pub question7 : Limits → List ℕ → ℕ
 question7 L s = ask (componentsFit (L .component) (program s)) 7
 
--- 8: the sequence is well-formed.
+-- 8: the sequence is well-formed, its entries being atoms of the program, written or fresh.
 abbrev pub question8 : Limits → List ℕ → List ℕ → ℕ
-question8 L s q = ask (sequenceFits L (atomsByte s) q) 8
+question8 L s q = ask (sequenceFits L (program s .atoms) q) 8
 
 -- 9: every chain is found in it.
 abbrev pub question9 : List ℕ → List ℕ → ℕ
@@ -46,9 +50,9 @@ question9 s q = ask (passes (program s) (entries q)) 9
 abbrev pub question10 : {A : Type 0} → List A → ℕ → ℕ
 question10 output room = ask (leb (length output) room) 10
 
--- 11: at most 16 atoms stand in the negative list of a rule.
+-- 11: at most 16 atoms stand in the negative list of a rule or a choice rule, or are the head of a choice rule.
 abbrev pub question11 : List ℕ → ℕ
-question11 s = ask (leb (length (negatedAtoms (program s))) 16) 11
+question11 s = ask (leb (length (decisionAtoms (atomsByte s) (records s))) 16) 11
 
 -- B: the record's number is below the number of records.
 abbrev pub questionB : ℕ → List ℕ → ℕ
@@ -57,12 +61,12 @@ questionB i s = ask (ltb i (recordsByte s)) 12
 -- Reading, and what every operation on a sheet alone asks first.
 unfoldable pub readQuestions : Limits → List ℕ → ℕ
 readQuestions L s =
-    question1 s then question2 s then question3 L s then questions4to6 s then question7 L s
+    question1 s then question2 s then question3 L s then questions4to6 s then question13 L s then question7 L s
 
 -- Testing a sequence, and what every operation on a sheet and a sequence asks first.
 unfoldable pub testQuestions : Limits → List ℕ → List ℕ → ℕ
 testQuestions L s q =
-    question1 s then question2 s then question3 L s then questions4to6 s then question7 L s
+    question1 s then question2 s then question3 L s then questions4to6 s then question13 L s then question7 L s
     then question8 L s q then question9 s q
 
 -- Showing a body.

@@ -6,7 +6,6 @@ use clause_output::put_clauses;
 use components::Components;
 use components::components_of;
 use components::fits;
-use program::ProgramTable;
 use reader::read_header;
 use reader::read_records;
 use sheet::Limits;
@@ -16,6 +15,8 @@ use sheet::sequence_fits;
 use sheet_output::blocks_length;
 use sheet_output::put_blocks;
 use sheet_output::put_names;
+use translation::choices_in;
+use translation::edges_of;
 use translation::program_of;
 use unfolded_output::put_unfolded;
 use unfolded_output::unfolded_length;
@@ -26,6 +27,7 @@ ghost use Prim.Native.Nat.{_≤_, _<_};
 ghost use lib.ListN.{length};
 ghost use Rattle.asp.specs.Count.{verdict};
 ghost use Rattle.sheet.specs.inner.Walk.{Walk};
+ghost use Rattle.reader.specs.inner.Tabled.{RecordArrays};
 ghost use Rattle.chains.specs.inner.Subsets.{Small};
 ghost use Rattle.writer.specs.inner.Wrote.{Wrote};
 ghost use Rattle.core.specs.Outcome.{fromVerdict};
@@ -33,7 +35,7 @@ ghost use Rattle.core.specs.Outputs.{sequenceHeader};
 ghost use Rattle.core.specs.Promises.{ReadPromise, BodyPromise, SlicePromise, nowhere, FindPromise};
 ghost use Rattle.core.specs.Promises.{ComponentsPromise, DefaultPromise, TestPromise, UnfoldedPromise, ClausesPromise, CountPromise};
 ghost use Rattle.core.specs.inner.Places.{Placed};
-ghost use Rattle.core.specs.inner.Asked.{Supported, SheetAsked, SequenceAsked, BothAsked};
+ghost use Rattle.core.specs.inner.Asked.{Supported, SheetAsked, RecordsAsked, SequenceAsked, BothKept};
 
 // Reading: the refusal, or the numbers of atoms and records.
 pub enum ReadAnswer {
@@ -78,25 +80,19 @@ pub enum CountAnswer {
     Counted(u64, Verdict),
 }
 
-// What the questions about a sheet say: the refusal, or 0 with its number of records, its program and its components.
+// What the questions about a sheet say: the refusal, or 0 with its numbers of written atoms, of records and of all atoms, and the
+// components of its program.
 pub struct Asked {
     pub refusal: u32,
+    pub written: usize,
     pub records: usize,
-    pub program: ProgramTable,
+    pub atoms: usize,
     pub components: Components,
 }
 
 fn refused(refusal: u32) -> Asked
     ensures { λ r. ⌜ r .refusal ≡ refusal ⌝ }
 {
-    let program = ProgramTable {
-        atoms: 0,
-        rules: 0,
-        constraints: 0,
-        heads: [0; 128],
-        pos: [0; 128],
-        neg: [0; 128],
-    };
     let components = Components {
         edges: [0; 64],
         ancestors: [0; 64],
@@ -105,16 +101,24 @@ fn refused(refusal: u32) -> Asked
     };
     Asked {
         refusal,
+        written: 0,
         records: 0,
-        program,
+        atoms: 0,
         components,
     }
 }
 
-// The questions about a sheet: 1 to 3, then 4 to 6 as its records are read, then 7.
-fn ask_sheet(limits: Limits, s: &[u8]) -> Asked
-    requires { ⌜ Supported limits ⌝ }
-    ensures { λ r. ⌜ SheetAsked limits (now (s .entry)) r ⌝ }
+// The questions about a sheet: 1 to 3, then 4 to 6 as its records are read, then 13, then 7.
+fn ask_records(
+    limits: Limits,
+    s: &[u8],
+    kinds: &mut [u8; 128],
+    heads: &mut [u8; 128],
+    pos: &mut [u64; 128],
+    neg: &mut [u64; 128],
+) -> Asked
+    requires { ⌜ Supported limits × RecordArrays (now kinds) (now heads) (now pos) (now neg) ⌝ }
+    ensures { λ r. ⌜ RecordsAsked limits (now (s .entry)) (now (kinds .exit)) (now (heads .exit)) (now (pos .exit)) (now (neg .exit)) r ⌝ }
 {
     let header = read_header(limits, s);
     if header.refusal != 0 {
@@ -122,25 +126,39 @@ fn ask_sheet(limits: Limits, s: &[u8]) -> Asked
     }
     let n = header.atoms;
     let m = header.records;
-    let mut kinds = [0u8; 128];
-    let mut heads = [0u8; 128];
-    let mut pos = [0u64; 128];
-    let mut neg = [0u64; 128];
-    let refusal = read_records(s, n, m, &mut kinds, &mut heads, &mut pos, &mut neg);
+    let refusal = read_records(s, n, m, kinds, heads, pos, neg);
     if refusal != 0 {
         return refused(refusal);
     }
-    let program = program_of(n, m, &kinds, &heads, &pos, &neg);
-    let components = components_of(n, program.rules, &program.heads, &program.pos);
-    if !fits(&components.sets, n, limits.component) {
+    let atoms = n + choices_in(kinds, m);
+    if limits.atoms < atoms {
+        return refused(13);
+    }
+    let edges = edges_of(n, m, kinds, heads, pos, neg);
+    let rows = edges.rows;
+    let components = components_of(atoms, rows);
+    if !fits(&components.sets, atoms, limits.component) {
         return refused(7);
     }
     Asked {
         refusal: 0,
+        written: n,
         records: m,
-        program,
+        atoms,
         components,
     }
+}
+
+// The same, where the records are not needed behind the questions.
+fn ask_sheet(limits: Limits, s: &[u8]) -> Asked
+    requires { ⌜ Supported limits ⌝ }
+    ensures { λ r. ⌜ SheetAsked limits (now (s .entry)) r ⌝ }
+{
+    let mut kinds = [0u8; 128];
+    let mut heads = [0u8; 128];
+    let mut pos = [0u64; 128];
+    let mut neg = [0u64; 128];
+    ask_records(limits, s, &mut kinds, &mut heads, &mut pos, &mut neg)
 }
 
 // The questions about a sequence, of a program of n atoms with its edges and the sets of its components: 8, then 9.
@@ -164,15 +182,24 @@ fn ask_sequence<'a>(
 }
 
 // The questions about a sheet, then those about a sequence.
-fn ask_both(limits: Limits, s: &[u8], q: &[u8]) -> Asked
-    requires { ⌜ Supported limits ⌝ }
-    ensures { λ r. ⌜ BothAsked limits (now (s .entry)) (now (q .entry)) r ⌝ }
+fn ask_both(
+    limits: Limits,
+    s: &[u8],
+    q: &[u8],
+    kinds: &mut [u8; 128],
+    heads: &mut [u8; 128],
+    pos: &mut [u64; 128],
+    neg: &mut [u64; 128],
+) -> Asked
+    requires { ⌜ Supported limits × RecordArrays (now kinds) (now heads) (now pos) (now neg) ⌝ }
+    ensures { λ r. ⌜ BothKept limits (now (s .entry)) (now (q .entry))
+        (now (kinds .exit)) (now (heads .exit)) (now (pos .exit)) (now (neg .exit)) r ⌝ }
 {
-    let a = ask_sheet(limits, s);
+    let a = ask_records(limits, s, kinds, heads, pos, neg);
     if a.refusal != 0 {
         return a;
     }
-    let n = a.program.atoms;
+    let n = a.atoms;
     let refusal = ask_sequence(limits, n, &a.components.edges, &a.components.sets, q);
     if refusal != 0 {
         return refused(refusal);
@@ -190,7 +217,7 @@ pub fn read(limits: Limits, s: &[u8]) -> ReadAnswer
     if refusal != 0 {
         return ReadAnswer::Refused(refusal);
     }
-    ReadAnswer::Header(a.program.atoms, a.records)
+    ReadAnswer::Header(a.written, a.records)
 }
 
 // Where a record stands, of m records that have passed.
@@ -241,7 +268,7 @@ pub fn find_body(limits: Limits, s: &[u8], number: usize) -> BodyPlace
     if m <= number {
         return no_body(12);
     }
-    let at = record_place(s, a.program.atoms, m, number);
+    let at = record_place(s, a.written, m, number);
     let end = record_end(s, at);
     let positives = byte_at(s, at + 3);
     let start = at + 4;
@@ -291,7 +318,7 @@ pub fn components(limits: Limits, s: &[u8], out: &mut [u8]) -> WriteAnswer
     if refusal != 0 {
         return WriteAnswer::Refused(refusal);
     }
-    let n = a.program.atoms;
+    let n = a.atoms;
     if out.len() < n {
         return WriteAnswer::Refused(10);
     }
@@ -319,7 +346,7 @@ pub fn default_sequence(limits: Limits, s: &[u8], out: &mut [u8]) -> WriteAnswer
     if refusal != 0 {
         return WriteAnswer::Refused(refusal);
     }
-    let n = a.program.atoms;
+    let n = a.atoms;
     let t = blocks_length(&a.components.sets, n);
     if out.len() < t + 3 {
         return WriteAnswer::Refused(10);
@@ -334,7 +361,11 @@ pub fn test(limits: Limits, s: &[u8], q: &[u8]) -> TestAnswer
     requires { ⌜ Supported limits ⌝ }
     ensures { λ r. ⌜ TestPromise limits (now (s .entry)) (now (q .entry)) r ⌝ }
 {
-    let a = ask_both(limits, s, q);
+    let mut kinds = [0u8; 128];
+    let mut heads = [0u8; 128];
+    let mut pos = [0u64; 128];
+    let mut neg = [0u64; 128];
+    let a = ask_both(limits, s, q, &mut kinds, &mut heads, &mut pos, &mut neg);
     let refusal = a.refusal;
     if refusal != 0 {
         return TestAnswer::Refused(refusal);
@@ -347,12 +378,16 @@ pub fn unfolded(limits: Limits, s: &[u8], q: &[u8], out: &mut [u32]) -> WriteAns
     requires { ⌜ Supported limits ⌝ }
     ensures { λ r. ⌜ UnfoldedPromise limits (now (s .entry)) (now (q .entry)) (now (out .entry)) (now (out .exit)) r ⌝ }
 {
-    let a = ask_both(limits, s, q);
+    let mut kinds = [0u8; 128];
+    let mut heads = [0u8; 128];
+    let mut pos = [0u64; 128];
+    let mut neg = [0u64; 128];
+    let a = ask_both(limits, s, q, &mut kinds, &mut heads, &mut pos, &mut neg);
     let refusal = a.refusal;
     if refusal != 0 {
         return WriteAnswer::Refused(refusal);
     }
-    let program = a.program;
+    let program = program_of(a.written, a.records, &kinds, &heads, &pos, &neg);
     let components = a.components;
     let names = components.names;
     let sets = components.sets;
@@ -368,12 +403,16 @@ pub fn clauses(limits: Limits, s: &[u8], q: &[u8], out: &mut [i32]) -> ClausesAn
     requires { ⌜ Supported limits ⌝ }
     ensures { λ r. ⌜ ClausesPromise limits (now (s .entry)) (now (q .entry)) (now (out .entry)) (now (out .exit)) r ⌝ }
 {
-    let a = ask_both(limits, s, q);
+    let mut kinds = [0u8; 128];
+    let mut heads = [0u8; 128];
+    let mut pos = [0u64; 128];
+    let mut neg = [0u64; 128];
+    let a = ask_both(limits, s, q, &mut kinds, &mut heads, &mut pos, &mut neg);
     let refusal = a.refusal;
     if refusal != 0 {
         return ClausesAnswer::Refused(refusal);
     }
-    let program = a.program;
+    let program = program_of(a.written, a.records, &kinds, &heads, &pos, &neg);
     let components = a.components;
     let names = components.names;
     let sets = components.sets;
@@ -402,12 +441,18 @@ pub fn count(limits: Limits, s: &[u8]) -> CountAnswer
     requires { ⌜ Supported limits ⌝ }
     ensures { λ r. ⌜ CountPromise limits (now (s .entry)) r ⌝ }
 {
-    let a = ask_sheet(limits, s);
+    let mut kinds = [0u8; 128];
+    let mut heads = [0u8; 128];
+    let mut pos = [0u64; 128];
+    let mut neg = [0u64; 128];
+    let a = ask_records(limits, s, &mut kinds, &mut heads, &mut pos, &mut neg);
     let refusal = a.refusal;
     if refusal != 0 {
         return CountAnswer::Refused(refusal);
     }
-    let found = counting::count(a.program, &a.components.ancestors);
+    let m = a.records;
+    let ancestors = a.components.ancestors;
+    let found = counting::count(m, &mut kinds, &mut heads, &mut pos, &mut neg, &ancestors);
     let states = found.states;
     if found.crowded {
         return CountAnswer::Refused(11);

@@ -1,4 +1,4 @@
 pub mod Ordering
 pub mod Returning
-pub mod Negating
+pub mod Asking
 pub mod Deciding

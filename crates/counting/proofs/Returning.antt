@@ -17,7 +17,7 @@ use Rattle.bits.specs.inner.Visited.{Lowest, Rest}
 use Rattle.bits.specs.inner.Listed.{Low}
 use Rattle.bits.proofs.Digits.{zero-has}
 use Rattle.search.specs.inner.Rules.{Returning}
-use Rattle.counting.specs.inner.Prepared.{Entered, Firsts, Sooner}
+use Rattle.counting.specs.inner.Returns.{Entered, Firsts, Sooner}
 
 -- Entering j for the atoms of a set, those left still to do.
 pub record Entering (at₀ : List ℕ) (set j left : ℕ) (at : List ℕ) : Type 0 where

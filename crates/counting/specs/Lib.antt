@@ -1,2 +1,2 @@
-pub mod Negated
+pub mod DecisionAtoms
 pub mod inner

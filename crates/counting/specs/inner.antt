@@ -1,3 +1,5 @@
 -- What inner functions promise: no public promise rests on it.
-pub mod TableCounted
+pub mod Deciding
 pub mod Prepared
+pub mod Returns
+pub mod RecordsCounted

@@ -1,54 +1,124 @@
-// The stable models of a program, counted over its table.
+// The stable models of a sheet's program, counted over its records: a choice rule is a free rule, which applies only in states that hold
+// its head, so no fresh atom is looked at.
 use bits::difference;
 use bits::lowest;
 use bits::rest;
 use bits::size;
 use bits::union;
 use bits::wide;
-use program::ProgramTable;
+use bits::with;
 use search::Decisions;
 use search::Sizes;
 use search::branch;
 ghost use mathlib.Core.Path.{_≡_};
 ghost use Prim.Native.Nat.{_+_, _≤_, _<_};
 ghost use lib.ListN.{length};
-ghost use Rattle.asp.specs.Count.{count};
 ghost use Rattle.bits.specs.inner.Listed.{Low};
 ghost use Rattle.bits.specs.inner.Visited.{listed};
-ghost use Rattle.program.specs.inner.Held.{programIn, Readable};
+ghost use Rattle.reader.specs.inner.Tabled.{ExactSets};
 ghost use Rattle.search.specs.inner.Rules.{Returning};
-ghost use Rattle.counting.specs.inner.Prepared.{entriesOf, Full, Reordered, Entered, Firsts, Sooner, Union};
-ghost use Rattle.counting.specs.inner.TableCounted.{TableCounted};
+ghost use Rattle.counting.specs.inner.Deciding.{WithAsked, AskedIn, GateOf, GatesOf};
+ghost use Rattle.counting.specs.inner.Prepared.{entriesOf, Full, Exchanged, Reordered, RuleKept, Prepared};
+ghost use Rattle.counting.specs.inner.Returns.{Entered, Firsts, Sooner};
+ghost use Rattle.counting.specs.inner.RecordsCounted.{Countable, ModelsCounted, RecordsCounted};
 
-// The atoms that are negative in some of the first k rules.
-fn negated(neg: &[u64; 128], k: usize) -> u64
-    requires { ⌜ k ≤ 128 ⌝ }
-    ensures { λ r. ⌜ Union (now (neg .entry)) k r ⌝ }
+// The set with the atoms that a record asks for.
+fn with_asked(x: u64, kind: usize, head: usize, neg: u64) -> u64
+    requires { ⌜ (kind ≡ 2 → head < 64) ⌝ }
+    ensures { λ r. ⌜ WithAsked x kind head neg r ⌝ }
+{
+    if kind == 0 {
+        return union(x, neg);
+    }
+    if kind == 2 {
+        return with(union(x, neg), head);
+    }
+    x
+}
+
+// The atoms to decide: those that one of the first m records asks for.
+fn asked_atoms<'a>(kinds: &'a [u8; 128], heads: &'a [u8; 128], neg: &'a [u64; 128], m: usize) -> u64
+    requires { ⌜ Countable m (now kinds) (now heads) ⌝ }
+    ensures { λ r. ⌜ AskedIn (now (kinds .entry)) (now (heads .entry)) (now (neg .entry)) m r ⌝ }
 {
     let mut x: u64 = 0;
     let mut j = 0;
-    while j < k {
-        x = union(x, neg[j]);
+    while j < m {
+        x = with_asked(x, wide(kinds[j]), wide(heads[j]), neg[j]);
         j += 1;
     }
     x
 }
 
-// Exchanges the rules at an index and at one behind it.
-fn exchange(heads: &mut [u8; 128], pos: &mut [u64; 128], neg: &mut [u64; 128], a: usize, b: usize)
-    requires { ⌜ Full (entriesOf (now heads) (now pos) (now neg)) × (a ≤ b) × (b < 128) ⌝ }
-    ensures { λ r. ⌜ Reordered (b + 1) (entriesOf (now (heads .entry)) (now (pos .entry)) (now (neg .entry)))
-        (entriesOf (now (heads .exit)) (now (pos .exit)) (now (neg .exit))) ⌝ }
+// Exchanges the records at an index and at one behind it.
+fn exchange(
+    kinds: &mut [u8; 128],
+    heads: &mut [u8; 128],
+    pos: &mut [u64; 128],
+    neg: &mut [u64; 128],
+    a: usize,
+    b: usize,
+)
+    requires { ⌜ Full (entriesOf (now kinds) (now heads) (now pos) (now neg)) × (a ≤ b) × (b < 128) ⌝ }
+    ensures { λ r. ⌜ Exchanged a b (entriesOf (now (kinds .entry)) (now (heads .entry)) (now (pos .entry)) (now (neg .entry)))
+        (entriesOf (now (kinds .exit)) (now (heads .exit)) (now (pos .exit)) (now (neg .exit))) ⌝ }
 {
-    let h = heads[a];
+    let kind = kinds[a];
+    let head = heads[a];
     let p = pos[a];
-    let q = neg[a];
+    let n = neg[a];
+    kinds[a] = kinds[b];
     heads[a] = heads[b];
     pos[a] = pos[b];
     neg[a] = neg[b];
-    heads[b] = h;
+    kinds[b] = kind;
+    heads[b] = head;
     pos[b] = p;
-    neg[b] = q;
+    neg[b] = n;
+}
+
+// Puts the record at j in front of the constraints, which are from k on, unless it is one; where these start then.
+fn keep_rule(
+    kinds: &mut [u8; 128],
+    heads: &mut [u8; 128],
+    pos: &mut [u64; 128],
+    neg: &mut [u64; 128],
+    k: usize,
+    j: usize,
+) -> usize
+    requires { ⌜ Full (entriesOf (now kinds) (now heads) (now pos) (now neg)) × (k ≤ j) × (j < 128) ⌝ }
+    ensures { λ r. ⌜ RuleKept k j (entriesOf (now (kinds .entry)) (now (heads .entry)) (now (pos .entry)) (now (neg .entry)))
+        (entriesOf (now (kinds .exit)) (now (heads .exit)) (now (pos .exit)) (now (neg .exit))) r ⌝ }
+{
+    if wide(kinds[j]) == 1 {
+        return k;
+    }
+    if k == j {
+        return k + 1;
+    }
+    exchange(kinds, heads, pos, neg, k, j);
+    k + 1
+}
+
+// Puts the first m records in an order with the constraints behind the others; how many others there are.
+fn rules_first(
+    kinds: &mut [u8; 128],
+    heads: &mut [u8; 128],
+    pos: &mut [u64; 128],
+    neg: &mut [u64; 128],
+    m: usize,
+) -> usize
+    requires { ⌜ Full (entriesOf (now kinds) (now heads) (now pos) (now neg)) × (m ≤ 128) ⌝ }
+    ensures { λ r. ⌜ Prepared m (entriesOf (now (kinds .entry)) (now (heads .entry)) (now (pos .entry)) (now (neg .entry)))
+        (entriesOf (now (kinds .exit)) (now (heads .exit)) (now (pos .exit)) (now (neg .exit))) r ⌝ }
+{
+    let mut k = 0;
+    let mut j = 0;
+    while j < m {
+        k = keep_rule(kinds, heads, pos, neg, k, j);
+        j += 1;
+    }
+    k
 }
 
 // Has the head at j a smaller row than the head at i?
@@ -62,6 +132,7 @@ fn smaller(heads: &[u8; 128], rows: &[u64; 64], j: usize, i: usize) -> bool
 
 // Moves the rule at an index down by steps of a gap, as long as the rule there has a head with a greater row.
 fn sink(
+    kinds: &mut [u8; 128],
     heads: &mut [u8; 128],
     pos: &mut [u64; 128],
     neg: &mut [u64; 128],
@@ -69,9 +140,9 @@ fn sink(
     gap: usize,
     from: usize,
 )
-    requires { ⌜ Full (entriesOf (now heads) (now pos) (now neg)) × (0 < gap) × (from < 128) ⌝ }
-    ensures { λ r. ⌜ Reordered (from + 1) (entriesOf (now (heads .entry)) (now (pos .entry)) (now (neg .entry)))
-        (entriesOf (now (heads .exit)) (now (pos .exit)) (now (neg .exit))) ⌝ }
+    requires { ⌜ Full (entriesOf (now kinds) (now heads) (now pos) (now neg)) × (0 < gap) × (from < 128) ⌝ }
+    ensures { λ r. ⌜ Reordered (from + 1) (entriesOf (now (kinds .entry)) (now (heads .entry)) (now (pos .entry)) (now (neg .entry)))
+        (entriesOf (now (kinds .exit)) (now (heads .exit)) (now (pos .exit)) (now (neg .exit))) ⌝ }
 {
     let mut j = from;
     while gap <= j {
@@ -79,13 +150,14 @@ fn sink(
         if !smaller(heads, rows, j, i) {
             return;
         }
-        exchange(heads, pos, neg, i, j);
+        exchange(kinds, heads, pos, neg, i, j);
         j = i;
     }
 }
 
 // The first k rules in an order that rises along each step of a gap.
 fn rise_by(
+    kinds: &mut [u8; 128],
     heads: &mut [u8; 128],
     pos: &mut [u64; 128],
     neg: &mut [u64; 128],
@@ -93,13 +165,13 @@ fn rise_by(
     gap: usize,
     k: usize,
 )
-    requires { ⌜ Full (entriesOf (now heads) (now pos) (now neg)) × (0 < gap) × (k ≤ 128) ⌝ }
-    ensures { λ r. ⌜ Reordered k (entriesOf (now (heads .entry)) (now (pos .entry)) (now (neg .entry)))
-        (entriesOf (now (heads .exit)) (now (pos .exit)) (now (neg .exit))) ⌝ }
+    requires { ⌜ Full (entriesOf (now kinds) (now heads) (now pos) (now neg)) × (0 < gap) × (k ≤ 128) ⌝ }
+    ensures { λ r. ⌜ Reordered k (entriesOf (now (kinds .entry)) (now (heads .entry)) (now (pos .entry)) (now (neg .entry)))
+        (entriesOf (now (kinds .exit)) (now (heads .exit)) (now (pos .exit)) (now (neg .exit))) ⌝ }
 {
     let mut j = gap;
     while j < k {
-        sink(heads, pos, neg, rows, gap, j);
+        sink(kinds, heads, pos, neg, rows, gap, j);
         j += 1;
     }
 }
@@ -107,21 +179,22 @@ fn rise_by(
 // The first k rules by their heads' rows. With sets of ancestors for rows a rule stands behind those that derive its positive
 // atoms, a set being a smaller number than any that holds it, and the rules of a component stand together.
 fn in_order(
+    kinds: &mut [u8; 128],
     heads: &mut [u8; 128],
     pos: &mut [u64; 128],
     neg: &mut [u64; 128],
     rows: &[u64; 64],
     k: usize,
 )
-    requires { ⌜ Full (entriesOf (now heads) (now pos) (now neg)) × (k ≤ 128) ⌝ }
-    ensures { λ r. ⌜ Reordered k (entriesOf (now (heads .entry)) (now (pos .entry)) (now (neg .entry)))
-        (entriesOf (now (heads .exit)) (now (pos .exit)) (now (neg .exit))) ⌝ }
+    requires { ⌜ Full (entriesOf (now kinds) (now heads) (now pos) (now neg)) × (k ≤ 128) ⌝ }
+    ensures { λ r. ⌜ Reordered k (entriesOf (now (kinds .entry)) (now (heads .entry)) (now (pos .entry)) (now (neg .entry)))
+        (entriesOf (now (kinds .exit)) (now (heads .exit)) (now (pos .exit)) (now (neg .exit))) ⌝ }
 {
-    rise_by(heads, pos, neg, rows, 57, k);
-    rise_by(heads, pos, neg, rows, 23, k);
-    rise_by(heads, pos, neg, rows, 10, k);
-    rise_by(heads, pos, neg, rows, 4, k);
-    rise_by(heads, pos, neg, rows, 1, k);
+    rise_by(kinds, heads, pos, neg, rows, 57, k);
+    rise_by(kinds, heads, pos, neg, rows, 23, k);
+    rise_by(kinds, heads, pos, neg, rows, 10, k);
+    rise_by(kinds, heads, pos, neg, rows, 4, k);
+    rise_by(kinds, heads, pos, neg, rows, 1, k);
 }
 
 // Enters j for each atom of a set.
@@ -191,50 +264,95 @@ fn returns_of(heads: &[u8; 128], pos: &[u64; 128], k: usize) -> Returns
     Returns { at }
 }
 
-// The number of stable models of a table's program, x being its negated atoms. Its negative sets are lent, too, and put in order.
-fn count_models(t: ProgramTable, neg: &mut [u64; 128], ancestors: &[u64; 64], x: u64) -> u64
-    requires { ⌜ Readable t × Union (t .neg) (t .rules) x × (length (listed x) ≤ 16) × (now neg ≡ t .neg) × (length (now neg) ≡ 128) ⌝ }
-    ensures { λ r. ⌜ r ≡ count (programIn t) ⌝ }
+// For each rule its gate.
+pub struct Gates {
+    pub at: [u64; 128],
+}
+
+// The gate of a rule: its head, where it is a choice rule, and otherwise nothing.
+fn gate_of(kind: usize, head: usize) -> u64
+    requires { ⌜ head < 64 ⌝ }
+    ensures { λ r. ⌜ GateOf kind head r ⌝ }
 {
-    let mut heads = t.heads;
-    let mut pos = t.pos;
-    let k = t.rules;
-    in_order(&mut heads, &mut pos, neg, ancestors, k);
-    let returns = returns_of(&heads, &pos, k);
+    if kind == 2 {
+        return with(0, head);
+    }
+    0
+}
+
+// The gates of the first k rules.
+fn gates_of<'a>(kinds: &'a [u8; 128], heads: &'a [u8; 128], k: usize) -> Gates
+    requires { ⌜ (k ≤ 128) × Low (now heads) k ⌝ }
+    ensures { λ r. ⌜ GatesOf (now (kinds .entry)) (now (heads .entry)) k (r .at) ⌝ }
+{
+    let mut at: [u64; 128] = [0; 128];
+    let mut j = 0;
+    while j < k {
+        at[j] = gate_of(wide(kinds[j]), wide(heads[j]));
+        j += 1;
+    }
+    Gates { at }
+}
+
+// The number of stable models of the program of m records, x being the atoms to decide. The records are put in order.
+fn count_models(
+    m: usize,
+    kinds: &mut [u8; 128],
+    heads: &mut [u8; 128],
+    pos: &mut [u64; 128],
+    neg: &mut [u64; 128],
+    ancestors: &[u64; 64],
+    x: u64,
+) -> u64
+    requires { ⌜ Countable m (now kinds) (now heads) × Full (entriesOf (now kinds) (now heads) (now pos) (now neg))
+        × ExactSets m (now pos) (now neg) × AskedIn (now kinds) (now heads) (now neg) m x × (length (listed x) ≤ 16) ⌝ }
+    ensures { λ r. ⌜ ModelsCounted m (entriesOf (now (kinds .entry)) (now (heads .entry)) (now (pos .entry)) (now (neg .entry))) r ⌝ }
+{
+    let k = rules_first(kinds, heads, pos, neg, m);
+    in_order(kinds, heads, pos, neg, ancestors, k);
+    let returns = returns_of(heads, pos, k);
     let back = returns.at;
-    let gate: [u64; 128] = [0; 128];
+    let gates = gates_of(kinds, heads, k);
+    let gate = gates.at;
     let sizes = Sizes {
         rules: k,
-        constraints: t.constraints,
+        constraints: m - k,
     };
     let d = Decisions {
         atoms: x,
         ins: 0,
         outs: 0,
     };
-    branch(&heads, &pos, neg, &gate, &back, sizes, d, true)
+    branch(heads, pos, neg, &gate, &back, sizes, d, true)
 }
 
-// Whether too many atoms are negated, and if not the number of stable models.
+// Whether there are too many atoms to decide, and if not the number of stable models.
 pub struct Found {
     pub crowded: bool,
     pub states: u64,
 }
 
-// The stable models of a table's program, counted. The atoms' sets of ancestors give the order of its rules.
-pub fn count(t: ProgramTable, ancestors: &[u64; 64]) -> Found
-    requires { ⌜ Readable t ⌝ }
-    ensures { λ r. ⌜ TableCounted t r ⌝ }
+// The stable models of the program of m records, counted; the records are put in another order. The atoms' sets of ancestors give it.
+pub fn count(
+    m: usize,
+    kinds: &mut [u8; 128],
+    heads: &mut [u8; 128],
+    pos: &mut [u64; 128],
+    neg: &mut [u64; 128],
+    ancestors: &[u64; 64],
+) -> Found
+    requires { ⌜ Countable m (now kinds) (now heads) × Full (entriesOf (now kinds) (now heads) (now pos) (now neg))
+        × ExactSets m (now pos) (now neg) ⌝ }
+    ensures { λ r. ⌜ RecordsCounted m (entriesOf (now (kinds .entry)) (now (heads .entry)) (now (pos .entry)) (now (neg .entry))) r ⌝ }
 {
-    let mut neg = t.neg;
-    let x = negated(&neg, t.rules);
+    let x = asked_atoms(kinds, heads, neg, m);
     if 16 < size(x) {
         return Found {
             crowded: true,
             states: 0,
         };
     }
-    let states = count_models(t, &mut neg, ancestors, x);
+    let states = count_models(m, kinds, heads, pos, neg, ancestors, x);
     Found {
         crowded: false,
         states,

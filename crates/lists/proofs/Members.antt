@@ -63,7 +63,7 @@ module _ {A : Type 0} where
   all-append p [] m = refl
   all-append p (x ∷ l) m = by-bool (p x) (λ t. rw t (all-append p l m)) (λ f. rw f refl)
 
-  any-append : (p : A → Bool) (l m : List A) → any p (l ++ m) ≡ (any p l || any p m)
+  pub any-append : (p : A → Bool) (l m : List A) → any p (l ++ m) ≡ (any p l || any p m)
   unfolding any
   any-append p [] m = refl
   any-append p (x ∷ l) m = by-bool (p x) (λ t. rw t refl) (λ f. rw f (any-append p l m))

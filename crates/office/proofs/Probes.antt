@@ -15,9 +15,9 @@ use Rattle.unfolding.specs.Faithful.{clausesOf, variablesOf}
 use Rattle.sheet.specs.Questions.{ask, _then_}
 use Rattle.sheet.specs.Format.{opens, measured, limited, complete, kindFits, kindPasses, rising, listFits, listsFit, recordQuestions, recordsQuestions}
 use Rattle.sheet.specs.Sequence.{sequenceFits}
-use Rattle.sheet.specs.Sheet.{recordAt, recordsFrom, records, rulesOf, constraintsOf, programOf, program}
+use Rattle.sheet.specs.Sheet.{recordAt, recordsFrom, records, adding, unless, recordRules, nextFresh, rulesOf, constraintsOf, choices, programOf, program}
 use Rattle.components.specs.Limit.{componentsFit}
-use Rattle.counting.specs.Negated.{negatedAtoms}
+use Rattle.counting.specs.DecisionAtoms.{asksFor, decisionAtoms}
 use Rattle.core.specs.Outcome.{outcome}
 use Rattle.core.specs.Outputs.{sequenceBytes, defaultOutput, clausesOutput, clauseNumbers}
 use Rattle.core.specs.Questions.{readQuestions, testQuestions}
@@ -25,5 +25,5 @@ use Rattle.core.specs.Promises.{defaultOutcome, testOutcome, clausesOutcome, co
 use Rattle.office.specs.Probes.{nothing, noEntries, positiveLoop, oddLoop, evenLoop, emptyConstraint, sheetA, threeEntries, fourEntries, answer, table, ProbesHold}
 
 pub probes : ProbesHold
-unfolding table answer nothing noEntries positiveLoop oddLoop evenLoop emptyConstraint sheetA threeEntries fourEntries flatMap below all any filter times member range outside holds consequences iterate leastModel definite reduct lawful derived isStable empty with states stableModels count verdict edge onward reach sameComponent first component linked extends longer chainsOf chains found passes members block defaultSequence last copied latest usable replaced renamed isKept keptFor variable copiesFrom unfolded negated literals ruleClauses rulesClauses copyClauses copiesClauses constraintClause clauses variables signed clauseWords signedWords clausesOf variablesOf ask _then_ opens measured limited complete kindFits kindPasses rising listFits listsFit sequenceFits recordAt recordsFrom records rulesOf constraintsOf programOf program componentsFit negatedAtoms outcome sequenceBytes defaultOutput clausesOutput clauseNumbers recordQuestions recordsQuestions readQuestions testQuestions defaultOutcome testOutcome clausesOutcome countOutcome
+unfolding table answer nothing noEntries positiveLoop oddLoop evenLoop emptyConstraint sheetA threeEntries fourEntries flatMap below all any filter times member range outside holds consequences iterate leastModel definite reduct lawful derived isStable empty with states stableModels count verdict edge onward reach sameComponent first component linked extends longer chainsOf chains found passes members block defaultSequence last copied latest usable replaced renamed isKept keptFor variable copiesFrom unfolded negated literals ruleClauses rulesClauses copyClauses copiesClauses constraintClause clauses variables signed clauseWords signedWords clausesOf variablesOf ask _then_ opens measured limited complete kindFits kindPasses rising listFits listsFit sequenceFits recordAt recordsFrom records adding unless recordRules nextFresh rulesOf constraintsOf choices programOf program componentsFit asksFor decisionAtoms outcome sequenceBytes defaultOutput clausesOutput clauseNumbers recordQuestions recordsQuestions readQuestions testQuestions defaultOutcome testOutcome clausesOutcome countOutcome
 probes = refl

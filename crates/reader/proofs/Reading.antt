@@ -18,10 +18,9 @@ use Rattle.sheet.specs.Format.{part, complete, kindPasses, listFits, listsFit, 
 use Rattle.sheet.specs.Sheet.{recordAt}
 use Rattle.sheet.proofs.Records.{ask-yes, record-incomplete, record-kind, lists-pos, lists-neg}
 use Rattle.sheet.proofs.Lists.{climb-is, Climbing, climbing-start, climbing-below, climbing-above, climbing-turn, climbing-end}
-use Rattle.program.specs.inner.Held.{bodyOf}
 use Rattle.reader.specs.declared.Gather.{Gather}
 use Rattle.reader.specs.declared.Entry.{Entry}
-use Rattle.reader.specs.inner.Tabled.{ListRead, recordOf, ListsRead, EntryRead}
+use Rattle.reader.specs.inner.Tabled.{Exact, ListRead, recordOf, ListsRead, EntryRead}
 
 -- The loop over a list: the list rises so far, and what is left of it and what is in the set are its members.
 pub record Reading (n : ℕ) (l : List ℕ) (i low x : ℕ) : Type 0 where
@@ -63,6 +62,10 @@ module _ (n : ℕ) (l : List ℕ) where
 pub listed-read : (n : ℕ) (l : List ℕ) (g : Gather) → n ≤ 64 → ListRead n l g → g .ok ≡ true → listed (g .set) ≡ l
 listed-read n l g h R t = listed-gathered n (g .set) l h (climb-is n l ∙ (sym (R .ok) ∙ t)) (R .set t)
 
+-- So its set has what its list says.
+exact-read : (n : ℕ) (l : List ℕ) (g : Gather) → n ≤ 64 → ListRead n l g → g .ok ≡ true → Exact (g .set)
+exact-read n l g h R t a = R .set t .members a ∙ ap (member a) (sym (listed-read n l g h R t))
+
 -- The lists of a record.
 module _ (n : ℕ) (s : List ℕ) (at k p : ℕ) (K : ByteAt s at k) (P : ByteAt s (at + 3) p) (g : Gather) (G : ListRead n (part (at + 4) (at + 4 + p) s) g) where
   no-lists : (r : Entry) → r .refusal ≡ 6 → false ≡ listsFit n s at → ListsRead n s at r
@@ -81,13 +84,15 @@ module _ (n : ℕ) (s : List ℕ) (at k p : ℕ) (K : ByteAt s at k) (P : ByteAt
 
     pub read-both : (d h : ℕ) → n ≤ 64 → ByteAt s (at + 1) d → ByteAt s (at + 2) h → g₂ .ok ≡ true
         → ListsRead n s at (record { refusal = 0; end = at + 1 + k; kind = d; head = h; pos = g .set; neg = g₂ .set })
-    unfolding ask recordOf bodyOf recordAt
+    unfolding ask recordOf recordAt
     read-both d h l D H u =
         record {
           says = rw (sym both ∙ u) refl;
           taken = λ _. record {
             end = rw (K .is) refl;
             is = rw (listed-read n _ g l G t, listed-read n _ g₂ l G₂ u, K .is, D .is, H .is, P .is) refl;
+            pos = exact-read n _ g l G t;
+            neg = exact-read n _ g₂ l G₂ u;
           };
         }
 

@@ -3,15 +3,18 @@ use mathlib.Core.List.{List, [], _∷_, _++_, append-nil, append-assoc}
 use mathlib.Core.Path.{_≡_, refl, sym, _∙_, ap, ap₂, subst}
 use Prim.Native.Nat.{ℕ, zero, suc, _+_, _-_, _≤_, _<_}
 use native.Mathlib.Omega.{arith}
+use borrow.Author.Tests.{eqb-true, eqb-false}
+use lib.Dec.{eqb}
 use lib.ListN.{length, getD, set, length-set}
 use lib.Seq.{getD-set-same, getD-set-other}
 use Rattle.lists.specs.Lists.{range}
+use Rattle.lists.proofs.Bools.{by-bool}
 use Rattle.lists.proofs.Tables.{range-grown}
 use Rattle.sheet.specs.Format.{end}
 use Rattle.sheet.specs.Sheet.{recordAt, recordsFrom}
 use Rattle.sheet.proofs.Records.{Checking, checking-start, checking-turn, checking-refused, checking-end, checking-left}
 use Rattle.reader.specs.declared.Entry.{Entry}
-use Rattle.reader.specs.inner.Tabled.{recordOf, recordsAt, EntryRead, RecordArrays, RecordsRead}
+use Rattle.reader.specs.inner.Tabled.{recordOf, recordsAt, Exact, ExactSets, EntryRead, RecordArrays, RecordsRead}
 
 -- One record more.
 module _ (ks hs ps ns : List ℕ) (j k h p n : ℕ) (lk : j < length ks) (lh : j < length hs) (lp : j < length ps) (ln : j < length ns) where
@@ -29,11 +32,17 @@ pub record Tabling (n m : ℕ) (s : List ℕ) (j at : ℕ) (ks hs ps ns : List �
   pub few : j ≤ m
   pub list : recordsAt ks hs ps ns 0 j ++ recordsFrom (m - j) s at ≡ recordsFrom m s 5
   pub long : RecordArrays ks hs ps ns
+  pub exact : ExactSets j ps ns
+
+-- One exact set more.
+exact-more : (sets : List ℕ) (j x : ℕ) → j < length sets → ((i : ℕ) → i < j → Exact (getD sets i 0)) → Exact x → (i : ℕ) → i < j + 1 → Exact (getD (set sets j x) i 0)
+exact-more sets j x n old new i l =
+    by-bool (eqb i j) (λ t. rw (eqb-true i j t) (rw (getD-set-same sets j x 0 n) new)) (λ f. let ne = eqb-false i j f in rw (getD-set-other sets j i x 0 ne) (old i (omega arith)))
 
 module _ (n m : ℕ) (s : List ℕ) where
   pub tabling-start : (ks hs ps ns : List ℕ) → 5 ≤ length s → RecordArrays ks hs ps ns → Tabling n m s 0 5 ks hs ps ns
   unfolding recordsAt range
-  tabling-start ks hs ps ns l long = let e : m - 0 ≡ m = omega arith in record { checking = rw e (checking-start n s m l); few = omega arith; list = rw e refl; long = long }
+  tabling-start ks hs ps ns l long = let e : m - 0 ≡ m = omega arith in record { checking = rw e (checking-start n s m l); few = omega arith; list = rw e refl; long = long; exact = record { pos = λ i l. absurd (omega arith); neg = λ i l. absurd (omega arith) } }
 
   first : (left at : ℕ) → 0 < left → recordsFrom left s at ≡ recordAt s at ∷ recordsFrom (left - 1) s (end s at)
   unfolding recordsFrom
@@ -58,14 +67,18 @@ module _ (n m : ℕ) (s : List ℕ) where
                 ∙ (ap (λ l. recordsAt ks hs ps ns 0 j ++ l) (ap₂ (λ x l. x ∷ l) (R .is) (ap₂ (λ i e. recordsFrom i s e) (sym less) (R .end)) ∙ sym (first (m - j) at (omega arith)))
                 ∙ T .list));
             long = record { kinds = length-set ks j (r .kind) ∙ k; heads = length-set hs j (r .head) ∙ h; pos = length-set ps j (r .pos) ∙ p; neg = length-set ns j (r .neg) ∙ q };
+            exact = record {
+              pos = exact-more ps j (r .pos) (omega arith) (T .exact .pos) (R .pos);
+              neg = exact-more ns j (r .neg) (omega arith) (T .exact .neg) (R .neg);
+            };
           }
 
       pub tabling-refused : (r .refusal ≡ 0 → ⊥) → RecordsRead n m s ks hs ps ns (r .refusal)
-      tabling-refused z = record { says = checking-refused n s m (m - j) at (r .refusal) (T .checking) (omega arith) (E .says) z; stored = λ y. absurd (z y) }
+      tabling-refused z = record { says = checking-refused n s m (m - j) at (r .refusal) (T .checking) (omega arith) (E .says) z; stored = λ y. absurd (z y); exact = λ y. absurd (z y); long = T .long }
 
     module _ (over : m ≤ j) where
       pub tabling-left : (at ≡ length s → ⊥) → RecordsRead n m s ks hs ps ns 4
-      tabling-left ne = record { says = checking-left n s m (m - j) at (T .checking) (omega arith) ne; stored = λ y. absurd (omega arith) }
+      tabling-left ne = record { says = checking-left n s m (m - j) at (T .checking) (omega arith) ne; stored = λ y. absurd (omega arith); exact = λ y. absurd (omega arith); long = T .long }
 
       pub tabling-end : at ≡ length s → RecordsRead n m s ks hs ps ns 0
       unfolding recordsFrom
@@ -76,4 +89,6 @@ module _ (n m : ℕ) (s : List ℕ) where
           record {
             says = checking-end n s m (m - j) at (T .checking) (omega arith) e;
             stored = λ _. ap (recordsAt ks hs ps ns 0) (sym all) ∙ (sym (append-nil (recordsAt ks hs ps ns 0 j)) ∙ (rw none at (T .list)));
+            exact = λ _. subst (λ i. ExactSets i ps ns) all (T .exact);
+            long = T .long;
           }

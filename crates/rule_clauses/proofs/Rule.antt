@@ -10,14 +10,14 @@ use Rattle.asp.specs.Program.{Body}
 use Rattle.unfolding.specs.Unfolded.{last, renamed}
 use Rattle.unfolding.specs.Clauses.{Literal, positive, negative, negated, Clause, literals, ruleClauses, constraintClause, signed, clauseWords, signedWords}
 use Rattle.bits.specs.inner.Visited.{listed}
-use Rattle.program.specs.inner.Held.{bodyOf}
+use Rattle.program.specs.inner.Held.{addedAtom, bodyOf}
 use Rattle.writer.specs.inner.Wrote.{Wrote}
 use Rattle.writer.proofs.Writing.{wrote-append, wrote-length}
 use Rattle.copies.specs.inner.Tables.{Values}
 use Rattle.copies.specs.inner.Bodies.{bodyBy}
 use Rattle.copies.proofs.Tables.{listed-last}
-use Rattle.rule_clauses.specs.inner.Literals.{literalOf, literalBy, pairs, pairsWords, flipped, flippedWords, bodyPairs, bodyPairsWords, backWords, ruleWords}
-use Rattle.rule_clauses.proofs.Signs.{flipped-size, two-size}
+use Rattle.rule_clauses.specs.inner.Literals.{literalOf, literalBy, pairs, pairsWords, flipped, flippedWords, addedLiterals, addedPairWords, addedFlippedWords, bodyPairs, bodyPairsWords, backWords, ruleWords}
+use Rattle.rule_clauses.proofs.Signs.{flipped-size, two-size, added-size}
 
 -- The words of clauses, one list behind the other.
 pub signed-append : (cs ds : List Clause) → signedWords (cs ++ ds) ≡ signedWords cs ++ signedWords ds
@@ -25,16 +25,38 @@ unfolding signedWords flatMap
 signed-append [] ds = refl
 signed-append (c ∷ cs) ds = ap (λ ws. clauseWords c ++ ws) (signed-append cs ds) ∙ sym (append-assoc (clauseWords c) (signedWords cs) (signedWords ds))
 
--- The body of two sets.
-module _ (vars lasts : List ℕ) (pos-set neg-set : ℕ) (F : Values last lasts) where
+-- The body of two sets and an added atom.
+module _ (vars lasts : List ℕ) (pos-set neg-set added : ℕ) (F : Values last lasts) where
   abbrev body : Body
-  body = bodyBy vars pos-set neg-set
+  body = bodyBy vars pos-set neg-set added
 
-  literals-are : literals body ≡ map (literalBy vars true) (listed pos-set) ++ map (literalBy lasts false) (listed neg-set)
-  unfolding literals bodyBy bodyOf renamed literalBy literalOf
-  literals-are =
-      ap₂ (λ (x y : List Literal). x ++ y) (map-map positive (λ b. getD vars b 0) (listed pos-set))
+  abbrev positives : List Literal
+  positives = map (literalBy vars true) (listed pos-set)
+
+  abbrev negatives : List Literal
+  negatives = map (literalBy lasts false) (listed neg-set)
+
+  negatives-are : map negative (map last (listed neg-set ++ addedAtom added)) ≡ negatives ++ addedLiterals added
+  unfolding literalBy literalOf addedLiterals
+  negatives-are =
+      ap (map negative) (map-append last (listed neg-set) (addedAtom added))
+      ∙ (map-append negative (map last (listed neg-set)) (map last (addedAtom added))
+      ∙ ap₂ (λ (x y : List Literal). x ++ y)
       (ap (map negative) (sym (listed-last lasts neg-set F)) ∙ map-map negative (λ b. getD lasts b 0) (listed neg-set))
+      (map-map negative last (addedAtom added)))
+
+  literals-are : literals body ≡ positives ++ (negatives ++ addedLiterals added)
+  unfolding literals bodyBy bodyOf renamed literalBy literalOf
+  literals-are = ap₂ (λ (x y : List Literal). x ++ y) (map-map positive (λ b. getD vars b 0) (listed pos-set)) negatives-are
+
+  -- What is made of each literal of the body.
+  each : {A : Type 0} (g : Literal → A)
+      → map g (literals body) ≡ map (λ b. g (literalBy vars true b)) (listed pos-set) ++ (map (λ b. g (literalBy lasts false b)) (listed neg-set) ++ map g (addedLiterals added))
+  each {A} g =
+      ap (map g) literals-are
+      ∙ (map-append g positives (negatives ++ addedLiterals added)
+      ∙ ap₂ (λ (x y : List A). x ++ y) (map-map g (literalBy vars true) (listed pos-set))
+      (map-append g negatives (addedLiterals added) ∙ ap (λ (x : List A). x ++ map g (addedLiterals added)) (map-map g (literalBy lasts false) (listed neg-set))))
 
   module _ (d : ℕ) where
     abbrev firsts : List ℤ
@@ -43,50 +65,62 @@ module _ (vars lasts : List ℕ) (pos-set neg-set : ℕ) (F : Values last lasts)
     abbrev seconds : List ℤ
     seconds = pairsWords lasts false d neg-set
 
-    pairs-words : bodyPairsWords vars d pos-set neg-set ≡ firsts ++ seconds
-    unfolding bodyPairsWords bodyPairs pairsWords pairs
+    abbrev thirds : List ℤ
+    thirds = addedPairWords d added
+
+    pairs-words : bodyPairsWords vars d pos-set neg-set added ≡ firsts ++ (seconds ++ thirds)
+    unfolding bodyPairsWords bodyPairs pairsWords pairs addedPairWords
     pairs-words =
         let g : Literal → Clause = λ l. negative d ∷ l ∷ [] in
-        ap signedWords
-        (ap (map g) literals-are
-        ∙ (map-append g (map (literalBy vars true) (listed pos-set)) (map (literalBy lasts false) (listed neg-set))
-        ∙ ap₂ (λ (x y : List Clause). x ++ y) (map-map g (literalBy vars true) (listed pos-set)) (map-map g (literalBy lasts false) (listed neg-set))))
-        ∙ signed-append (pairs vars true d pos-set) (pairs lasts false d neg-set)
+        ap signedWords (each g)
+        ∙ (signed-append (pairs vars true d pos-set) (pairs lasts false d neg-set ++ map g (addedLiterals added))
+        ∙ ap (λ ws. firsts ++ ws) (signed-append (pairs lasts false d neg-set) (map g (addedLiterals added))))
 
-    pairs-size : length (bodyPairsWords vars d pos-set neg-set) ≡ length firsts + length seconds
-    pairs-size = ap length pairs-words ∙ length-append firsts seconds
+    pairs-size : length (bodyPairsWords vars d pos-set neg-set added) ≡ length firsts + (length seconds + length thirds)
+    pairs-size = ap length pairs-words ∙ (length-append firsts (seconds ++ thirds) ∙ ap (λ n. length firsts + n) (length-append seconds thirds))
 
-    module _ (old : List ℤ) (at : ℕ) (room : at + length (bodyPairsWords vars d pos-set neg-set) ≤ length old) where
+    module _ (old : List ℤ) (at : ℕ) (room : at + length (bodyPairsWords vars d pos-set neg-set added) ≤ length old) where
       pub pairs-first : at + length (pairsWords vars true d pos-set) ≤ length old
       pairs-first = let e = pairs-size in omega arith
 
-      pub pairs-second : (o₁ : List ℤ) (mid : ℕ) → Wrote old at (pairsWords vars true d pos-set) o₁ mid → mid + length (pairsWords lasts false d neg-set) ≤ length o₁
-      pairs-second o₁ mid W = let e = pairs-size in let m = W .moved in let n = wrote-length _ _ _ _ _ W in omega arith
+      module _ (o₁ : List ℤ) (mid : ℕ) (W₁ : Wrote old at (pairsWords vars true d pos-set) o₁ mid) where
+        pub pairs-second : mid + length (pairsWords lasts false d neg-set) ≤ length o₁
+        pairs-second = let e = pairs-size in let m = W₁ .moved in let n = wrote-length _ _ _ _ _ W₁ in omega arith
 
-    pub pairs-wrote : (old o₁ new : List ℤ) (at mid r : ℕ) → Wrote old at (pairsWords vars true d pos-set) o₁ mid → Wrote o₁ mid (pairsWords lasts false d neg-set) new r
-        → Wrote old at (bodyPairsWords vars d pos-set neg-set) new r
-    pairs-wrote old o₁ new at mid r W₁ W₂ = subst (λ ws. Wrote old at ws new r) (sym pairs-words) (wrote-append _ _ _ _ _ _ _ _ W₁ W₂)
+        pub pairs-third : (o₂ : List ℤ) (end : ℕ) → Wrote o₁ mid (pairsWords lasts false d neg-set) o₂ end → end + length (addedPairWords d added) ≤ length o₂
+        pairs-third o₂ end W₂ =
+            let e = pairs-size in let m₁ = W₁ .moved in let m₂ = W₂ .moved in let n₁ = wrote-length _ _ _ _ _ W₁ in let n₂ = wrote-length _ _ _ _ _ W₂ in omega arith
 
-  back-words : backWords vars pos-set neg-set ≡ flippedWords vars true pos-set ++ (flippedWords lasts false neg-set ++ (pos 0 ∷ []))
-  unfolding backWords clauseWords constraintClause flippedWords flipped
+    pub pairs-wrote : (old o₁ o₂ new : List ℤ) (at mid end r : ℕ) → Wrote old at (pairsWords vars true d pos-set) o₁ mid → Wrote o₁ mid (pairsWords lasts false d neg-set) o₂ end
+        → Wrote o₂ end (addedPairWords d added) new r → Wrote old at (bodyPairsWords vars d pos-set neg-set added) new r
+    pairs-wrote old o₁ o₂ new at mid end r W₁ W₂ W₃ =
+        subst (λ ws. Wrote old at ws new r) (sym pairs-words) (wrote-append _ _ _ _ _ _ _ _ W₁ (wrote-append _ _ _ _ _ _ _ _ W₂ W₃))
+
+  abbrev fourths : List ℤ
+  fourths = flippedWords lasts false neg-set ++ (addedFlippedWords added ++ (pos 0 ∷ []))
+
+  back-words : backWords vars pos-set neg-set added ≡ flippedWords vars true pos-set ++ fourths
+  unfolding backWords clauseWords constraintClause flippedWords flipped addedFlippedWords
   back-words =
       let g = flipped vars true pos-set in
       let h = flipped lasts false neg-set in
-      ap (λ (c : Clause). map signed c ++ (pos 0 ∷ []))
-      (ap (map negated) literals-are
-      ∙ (map-append negated (map (literalBy vars true) (listed pos-set)) (map (literalBy lasts false) (listed neg-set))
-      ∙ ap₂ (λ (x y : Clause). x ++ y) (map-map negated (literalBy vars true) (listed pos-set)) (map-map negated (literalBy lasts false) (listed neg-set))))
-      ∙ (ap (λ (ws : List ℤ). ws ++ (pos 0 ∷ [])) (map-append signed g h) ∙ append-assoc (map signed g) (map signed h) (pos 0 ∷ []))
+      let k = map negated (addedLiterals added) in
+      ap (λ (c : Clause). map signed c ++ (pos 0 ∷ [])) (each negated)
+      ∙ (ap (λ (ws : List ℤ). ws ++ (pos 0 ∷ [])) (map-append signed g (h ++ k) ∙ ap (λ (ws : List ℤ). map signed g ++ ws) (map-append signed h k))
+      ∙ (append-assoc (map signed g) (map signed h ++ map signed k) (pos 0 ∷ [])
+      ∙ ap (λ (ws : List ℤ). map signed g ++ ws) (append-assoc (map signed h) (map signed k) (pos 0 ∷ []))))
 
-  back-size : length (backWords vars pos-set neg-set) ≡ length (listed pos-set) + length (listed neg-set) + 1
+  back-size : length (backWords vars pos-set neg-set added) ≡ length (listed pos-set) + length (listed neg-set) + length (addedAtom added) + 1
   back-size =
-      let e = ap length back-words ∙ length-append (flippedWords vars true pos-set) (flippedWords lasts false neg-set ++ (pos 0 ∷ [])) in
-      let f = length-append (flippedWords lasts false neg-set) (pos 0 ∷ []) in
+      let e = ap length back-words ∙ length-append (flippedWords vars true pos-set) fourths in
+      let f = length-append (flippedWords lasts false neg-set) (addedFlippedWords added ++ (pos 0 ∷ [])) in
+      let x = length-append (addedFlippedWords added) (pos 0 ∷ []) in
       let g = flipped-size vars true pos-set in
       let h = flipped-size lasts false neg-set in
+      let k = added-size added in
       omega arith
 
-  module _ (old : List ℤ) (at : ℕ) (room : at + length (backWords vars pos-set neg-set) ≤ length old) where
+  module _ (old : List ℤ) (at : ℕ) (room : at + length (backWords vars pos-set neg-set added) ≤ length old) where
     pub back-first : at + length (listed pos-set) ≤ length old
     back-first = let e = back-size in omega arith
 
@@ -94,13 +128,20 @@ module _ (vars lasts : List ℕ) (pos-set neg-set : ℕ) (F : Values last lasts)
       pub back-second : mid + length (listed neg-set) ≤ length o₁
       back-second = let e = back-size in let m = W₁ .moved in let n = wrote-length _ _ _ _ _ W₁ in let g = flipped-size vars true pos-set in omega arith
 
-      module _ (o₂ : List ℤ) (end : ℕ) (W₂ : Wrote o₁ mid (flippedWords lasts false neg-set) o₂ end) where
-        pub back-third : end < length o₂
+      module _ (o₂ : List ℤ) (behind : ℕ) (W₂ : Wrote o₁ mid (flippedWords lasts false neg-set) o₂ behind) where
+        pub back-third : behind + length (addedAtom added) ≤ length o₂
         back-third =
             let e = back-size in let m = W₁ .moved in let m₂ = W₂ .moved in let n = wrote-length _ _ _ _ _ W₁ in let n₂ = wrote-length _ _ _ _ _ W₂ in let g = flipped-size vars true pos-set in let h = flipped-size lasts false neg-set in omega arith
 
-        pub back-wrote : (new : List ℤ) (r : ℕ) → Wrote o₂ end (pos 0 ∷ []) new r → Wrote old at (backWords vars pos-set neg-set) new r
-        back-wrote new r W₃ = subst (λ ws. Wrote old at ws new r) (sym back-words) (wrote-append _ _ _ _ _ _ _ _ W₁ (wrote-append _ _ _ _ _ _ _ _ W₂ W₃))
+        module _ (o₃ : List ℤ) (end : ℕ) (W₃ : Wrote o₂ behind (addedFlippedWords added) o₃ end) where
+          pub back-fourth : end < length o₃
+          back-fourth =
+              let m = W₁ .moved in let m₂ = W₂ .moved in let m₃ = W₃ .moved in let n = wrote-length _ _ _ _ _ W₁ in let n₂ = wrote-length _ _ _ _ _ W₂ in let n₃ = wrote-length _ _ _ _ _ W₃ in
+              let e = back-size in let g = flipped-size vars true pos-set in let h = flipped-size lasts false neg-set in let k = added-size added in omega arith
+
+          pub back-wrote : (new : List ℤ) (r : ℕ) → Wrote o₃ end (pos 0 ∷ []) new r → Wrote old at (backWords vars pos-set neg-set added) new r
+          back-wrote new r W₄ =
+              subst (λ ws. Wrote old at ws new r) (sym back-words) (wrote-append _ _ _ _ _ _ _ _ W₁ (wrote-append _ _ _ _ _ _ _ _ W₂ (wrote-append _ _ _ _ _ _ _ _ W₃ W₄)))
 
 -- The first literal of a clause.
 back-first-word : (c : Clause) (d : ℕ) → clauseWords (positive d ∷ c) ≡ (pos d ∷ []) ++ clauseWords c
@@ -125,31 +166,31 @@ module _ (h d : ℕ) (b : Body) where
       omega arith
 
 -- A rule.
-module _ (vars : List ℕ) (h d pos-set neg-set : ℕ) where
-  whole : length (ruleWords vars h d pos-set neg-set) ≡ 3 + length (bodyPairsWords vars d pos-set neg-set) + 1 + length (backWords vars pos-set neg-set)
+module _ (vars : List ℕ) (h d pos-set neg-set added : ℕ) where
+  whole : length (ruleWords vars h d pos-set neg-set added) ≡ 3 + length (bodyPairsWords vars d pos-set neg-set added) + 1 + length (backWords vars pos-set neg-set added)
   unfolding ruleWords bodyPairsWords backWords
-  whole = rule-size h d (bodyBy vars pos-set neg-set)
+  whole = rule-size h d (bodyBy vars pos-set neg-set added)
 
-  module _ (old : List ℤ) (at : ℕ) (room : at + length (ruleWords vars h d pos-set neg-set) ≤ length old) where
+  module _ (old : List ℤ) (at : ℕ) (room : at + length (ruleWords vars h d pos-set neg-set added) ≤ length old) where
     pub rule-first : at + 3 ≤ length old
     rule-first = let e = whole in omega arith
 
     module _ (o₁ : List ℤ) (p₁ : ℕ) (W₁ : Wrote old at (clauseWords (literalOf true h ∷ literalOf false d ∷ [])) o₁ p₁) where
-      pub rule-second : p₁ + length (bodyPairsWords vars d pos-set neg-set) ≤ length o₁
+      pub rule-second : p₁ + length (bodyPairsWords vars d pos-set neg-set added) ≤ length o₁
       rule-second = let e = whole in let n = wrote-length _ _ _ _ _ W₁ in let m = W₁ .moved in let g = two-size (literalOf true h) (literalOf false d) in omega arith
 
-      module _ (o₂ : List ℤ) (p₂ : ℕ) (W₂ : Wrote o₁ p₁ (bodyPairsWords vars d pos-set neg-set) o₂ p₂) where
+      module _ (o₂ : List ℤ) (p₂ : ℕ) (W₂ : Wrote o₁ p₁ (bodyPairsWords vars d pos-set neg-set added) o₂ p₂) where
         pub rule-third : p₂ < length o₂
         rule-third = let e = whole in let n = wrote-length _ _ _ _ _ W₁ in let n₂ = wrote-length _ _ _ _ _ W₂ in let m = W₁ .moved in let m₂ = W₂ .moved in let g = two-size (literalOf true h) (literalOf false d) in omega arith
 
         module _ (o₃ : List ℤ) (p₃ : ℕ) (W₃ : Wrote o₂ p₂ (pos d ∷ []) o₃ p₃) where
-          pub rule-fourth : p₃ + length (backWords vars pos-set neg-set) ≤ length o₃
+          pub rule-fourth : p₃ + length (backWords vars pos-set neg-set added) ≤ length o₃
           rule-fourth =
               let n = wrote-length _ _ _ _ _ W₁ in let n₂ = wrote-length _ _ _ _ _ W₂ in let n₃ = wrote-length _ _ _ _ _ W₃ in
               let e = whole in let m = W₁ .moved in let m₂ = W₂ .moved in let m₃ = W₃ .moved in let g = two-size (literalOf true h) (literalOf false d) in omega arith
 
-          pub rule-wrote : (new : List ℤ) (r : ℕ) → Wrote o₃ p₃ (backWords vars pos-set neg-set) new r → Wrote old at (ruleWords vars h d pos-set neg-set) new r
+          pub rule-wrote : (new : List ℤ) (r : ℕ) → Wrote o₃ p₃ (backWords vars pos-set neg-set added) new r → Wrote old at (ruleWords vars h d pos-set neg-set added) new r
           unfolding ruleWords bodyPairsWords backWords
           rule-wrote new r W₄ =
-              subst (λ ws. Wrote old at ws new r) (sym (parts h d (bodyBy vars pos-set neg-set)))
+              subst (λ ws. Wrote old at ws new r) (sym (parts h d (bodyBy vars pos-set neg-set added)))
               (wrote-append _ _ _ _ _ _ _ _ W₁ (wrote-append _ _ _ _ _ _ _ _ W₂ (wrote-append _ _ _ _ _ _ _ _ W₃ W₄)))

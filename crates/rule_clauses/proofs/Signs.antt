@@ -1,8 +1,8 @@
 -- Laws of writing literals, and those of a set's atoms.
 use mathlib.Core.Bool.{Bool, true, false, not}
-use mathlib.Core.List.{List, [], _∷_, map-map, flatMap}
+use mathlib.Core.List.{List, [], _∷_, map, map-map, flatMap, append-nil}
 use mathlib.Core.Path.{_≡_, refl, sym, _∙_, ap, subst}
-use Prim.Native.Nat.{ℕ, _+_, _<_, _≤_}
+use Prim.Native.Nat.{ℕ, zero, suc, _+_, _<_, _≤_}
 use native.Mathlib.Omega.{arith}
 use lib.IntN.{ℤ, pos, negℤ}
 use lib.ListN.{length, length-map, getD}
@@ -10,11 +10,12 @@ use Rattle.lists.proofs.Members.{map-cong}
 use Rattle.unfolding.specs.Clauses.{Literal, negative, negated, signed, clauseWords, signedWords}
 use Rattle.unfolding.specs.Unfolded.{last}
 use Rattle.bits.specs.inner.Visited.{listed, Lowest, Rest}
+use Rattle.program.specs.inner.Held.{addedAtom}
 use Rattle.writer.specs.inner.Wrote.{Wrote}
 use Rattle.writer.proofs.Writing.{wrote-append}
 use Rattle.writer.proofs.Loops.{flatMap-one, flatMap-map, SetLeft, set-start, set-turn, set-room, set-length, set-end}
 use Rattle.copies.specs.inner.Tables.{Values}
-use Rattle.rule_clauses.specs.inner.Literals.{literalOf, literalBy, pairs, pairsWords, flipped, flippedWords, SmallVariables}
+use Rattle.rule_clauses.specs.inner.Literals.{literalOf, literalBy, pairs, pairsWords, flipped, flippedWords, addedLiterals, addedPairWords, addedFlippedWords, SmallVariables}
 
 -- One literal.
 module _ (old new : List ℤ) (at r v : ℕ) (plain : Bool) where
@@ -121,3 +122,53 @@ module _ (vars : List ℕ) (plain : Bool) (d : ℕ) where
 
       pub pairs-end : left ≤ 0 → Wrote old at (pairsWords vars plain d x) cur next
       pairs-end h = subst (λ ws. Wrote old at ws cur next) (pairs-are x) (set-end pairOne old at x cur next left S h)
+
+-- The literal of an added atom.
+added-none : (added : ℕ) → added ≡ 0 → addedLiterals added ≡ []
+unfolding addedLiterals addedAtom
+added-none added z = rw z refl
+
+added-one : (added : ℕ) → (added ≡ 0 → ⊥) → addedLiterals added ≡ literalOf false added ∷ []
+unfolding addedLiterals addedAtom last literalOf
+added-one zero ne = absurd (ne refl)
+added-one (suc a) ne = refl
+
+pub added-size : (added : ℕ) → length (addedFlippedWords added) ≡ length (addedAtom added)
+unfolding addedFlippedWords addedLiterals
+added-size added =
+    length-map (map negated (addedLiterals added)) signed
+    ∙ (length-map (addedLiterals added) negated ∙ length-map {B = Literal} (addedAtom added) (λ b. negative (last b)))
+
+module _ (added : ℕ) (old : List ℤ) (at : ℕ) where
+  wrote-none : Wrote old at [] old at
+  wrote-none = record { stored = refl; moved = omega arith }
+
+  module _ (z : added ≡ 0) where
+    pub pair-none : (d : ℕ) → Wrote old at (addedPairWords d added) old at
+    unfolding addedPairWords signedWords flatMap
+    pair-none d = rw (added-none added z) wrote-none
+
+    pub flip-none : Wrote old at (addedFlippedWords added) old at
+    unfolding addedFlippedWords
+    flip-none = rw (added-none added z) wrote-none
+
+  module _ (ne : added ≡ 0 → ⊥) where
+    pair-is : (d : ℕ) → addedPairWords d added ≡ clauseWords (literalOf false d ∷ literalOf false added ∷ [])
+    unfolding addedPairWords signedWords flatMap literalOf
+    pair-is d = rw (added-one added ne) (append-nil (clauseWords (negative d ∷ negative added ∷ [])))
+
+    pub pair-room : (d : ℕ) → at + length (addedPairWords d added) ≤ length old → at + 3 ≤ length old
+    pair-room d h = let e = ap length (pair-is d) in let k = two-size (literalOf false d) (literalOf false added) in omega arith
+
+    pub pair-one : (d : ℕ) (new : List ℤ) (r : ℕ) → Wrote old at (clauseWords (literalOf false d ∷ literalOf false added ∷ [])) new r → Wrote old at (addedPairWords d added) new r
+    pair-one d new r W = rw (pair-is d) W
+
+    flip-is : addedFlippedWords added ≡ pos added ∷ []
+    unfolding addedFlippedWords literalOf negated signed
+    flip-is = rw (added-one added ne) refl
+
+    pub flip-room : at + length (addedAtom added) ≤ length old → at < length old
+    flip-room h = let e = ap length flip-is in let k = added-size added in omega arith
+
+    pub flip-one : (new : List ℤ) (r : ℕ) → Wrote old at (pos added ∷ []) new r → Wrote old at (addedFlippedWords added) new r
+    flip-one new r W = rw flip-is W

@@ -9,9 +9,11 @@ ghost use lib.ListN.{length};
 ghost use Rattle.unfolding.specs.Unfolded.{last};
 ghost use Rattle.unfolding.specs.Clauses.{signed, clauseWords};
 ghost use Rattle.bits.specs.inner.Visited.{listed};
+ghost use Rattle.program.specs.inner.Held.{addedAtom};
 ghost use Rattle.writer.specs.inner.Wrote.{Wrote};
 ghost use Rattle.copies.specs.inner.Tables.{Values};
-ghost use Rattle.rule_clauses.specs.inner.Literals.{literalOf, pairsWords, flippedWords, bodyPairsWords, backWords, ruleWords, SmallVariables};
+ghost use Rattle.rule_clauses.specs.inner.Literals.{literalOf, pairsWords, flippedWords, addedPairWords, addedFlippedWords};
+ghost use Rattle.rule_clauses.specs.inner.Literals.{bodyPairsWords, backWords, ruleWords, SmallVariables};
 
 // The literal v or -v.
 fn put_literal(out: &mut [i32], at: usize, plain: bool, v: u32) -> usize
@@ -62,42 +64,69 @@ fn put_flipped(out: &mut [i32], at: usize, x: u64, vars: &[u32; 64], plain: bool
     next
 }
 
-// For each literal of the body of two sets the clause of -d and it.
+// For an added atom a the clause of -d and its literal: its last copy is the variable a + 1, which stands for it in the table.
+fn put_added_pair(out: &mut [i32], at: usize, d: u32, added: u8) -> usize
+    requires { ⌜ (d < 2147483648) × (at + length (addedPairWords d added) ≤ length (now out)) ⌝ }
+    ensures { λ r. ⌜ Wrote (now (out .entry)) at (addedPairWords d added) (now (out .exit)) r ⌝ }
+{
+    if added == 0 {
+        return at;
+    }
+    put_two(out, at, false, d, false, added as u32)
+}
+
+// The literal of an added atom, negated.
+fn put_added_flipped(out: &mut [i32], at: usize, added: u8) -> usize
+    requires { ⌜ at + length (addedAtom added) ≤ length (now out) ⌝ }
+    ensures { λ r. ⌜ Wrote (now (out .entry)) at (addedFlippedWords added) (now (out .exit)) r ⌝ }
+{
+    if added == 0 {
+        return at;
+    }
+    put_plain(out, at, added as u32)
+}
+
+// For each literal of the body of two sets and an added atom the clause of -d and it.
 fn put_body_pairs(
     out: &mut [i32],
     at: usize,
     d: u32,
     pos: u64,
     neg: u64,
+    added: u8,
     vars: &[u32; 64],
     lasts: &[u32; 64],
 ) -> usize
     requires { ⌜ SmallVariables (now vars) × Values last (now lasts) × (d < 2147483648)
-        × (at + length (bodyPairsWords (now vars) d pos neg) ≤ length (now out)) ⌝ }
-    ensures { λ r. ⌜ Wrote (now (out .entry)) at (bodyPairsWords (now (vars .entry)) d pos neg) (now (out .exit)) r ⌝ }
+        × (at + length (bodyPairsWords (now vars) d pos neg added) ≤ length (now out)) ⌝ }
+    ensures { λ r. ⌜ Wrote (now (out .entry)) at (bodyPairsWords (now (vars .entry)) d pos neg added) (now (out .exit)) r ⌝ }
 {
     let middle = put_pairs(out, at, d, pos, vars, true);
-    put_pairs(out, middle, d, neg, lasts, false)
+    let end = put_pairs(out, middle, d, neg, lasts, false);
+    put_added_pair(out, end, d, added)
 }
 
-// The clause of the negated literals of the body of two sets.
+// The clause of the negated literals of the body of two sets and an added atom.
 pub fn put_back(
     out: &mut [i32],
     at: usize,
     pos: u64,
     neg: u64,
+    added: u8,
     vars: &[u32; 64],
     lasts: &[u32; 64],
 ) -> usize
-    requires { ⌜ SmallVariables (now vars) × Values last (now lasts) × (at + length (backWords (now vars) pos neg) ≤ length (now out)) ⌝ }
-    ensures { λ r. ⌜ Wrote (now (out .entry)) at (backWords (now (vars .entry)) pos neg) (now (out .exit)) r ⌝ }
+    requires { ⌜ SmallVariables (now vars) × Values last (now lasts)
+        × (at + length (backWords (now vars) pos neg added) ≤ length (now out)) ⌝ }
+    ensures { λ r. ⌜ Wrote (now (out .entry)) at (backWords (now (vars .entry)) pos neg added) (now (out .exit)) r ⌝ }
 {
     let middle = put_flipped(out, at, pos, vars, true);
-    let last = put_flipped(out, middle, neg, lasts, false);
+    let behind = put_flipped(out, middle, neg, lasts, false);
+    let last = put_added_flipped(out, behind, added);
     put_plain(out, last, 0)
 }
 
-// The clauses of the rule of two sets, with the variable d, for h.
+// The clauses of the rule of two sets and an added atom, with the variable d, for h.
 pub fn put_rule(
     out: &mut [i32],
     at: usize,
@@ -105,15 +134,16 @@ pub fn put_rule(
     d: u32,
     pos: u64,
     neg: u64,
+    added: u8,
     vars: &[u32; 64],
     lasts: &[u32; 64],
 ) -> usize
     requires { ⌜ SmallVariables (now vars) × Values last (now lasts) × (h < 2147483648) × (d < 2147483648)
-        × (at + length (ruleWords (now vars) h d pos neg) ≤ length (now out)) ⌝ }
-    ensures { λ r. ⌜ Wrote (now (out .entry)) at (ruleWords (now (vars .entry)) h d pos neg) (now (out .exit)) r ⌝ }
+        × (at + length (ruleWords (now vars) h d pos neg added) ≤ length (now out)) ⌝ }
+    ensures { λ r. ⌜ Wrote (now (out .entry)) at (ruleWords (now (vars .entry)) h d pos neg added) (now (out .exit)) r ⌝ }
 {
     let first = put_two(out, at, true, h, false, d);
-    let second = put_body_pairs(out, first, d, pos, neg, vars, lasts);
+    let second = put_body_pairs(out, first, d, pos, neg, added, vars, lasts);
     let third = put_plain(out, second, d);
-    put_back(out, third, pos, neg, vars, lasts)
+    put_back(out, third, pos, neg, added, vars, lasts)
 }

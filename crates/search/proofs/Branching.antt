@@ -1,5 +1,5 @@
 -- Laws of counting by decisions: two bounds on every stable model that agrees, and the two ways to decide an atom.
-use mathlib.Core.Bool.{Bool, true, false, not, _&&_, _||_, Bool·beq, and-assoc, and-true}
+use mathlib.Core.Bool.{Bool, true, false, not, _&&_, _||_, Bool·beq, and-assoc}
 use mathlib.Core.List.{List, [], _∷_, map, List·Memᴰ, List·Memᴰ·head, List·Memᴰ·not-nil, List·Memᴰ·eq-of-singleton, Memᴰ·map, Memᴰ·of-map, Pairwise·nil}
 use mathlib.Core.Logic.{_⊎_, inl, inr, ⊎-elim}
 use mathlib.Core.Path.{_≡_, refl, sym, _∙_, ap, subst, fun-ext}
@@ -12,12 +12,12 @@ use Rattle.lists.specs.Lists.{all, filter, range}
 use Rattle.lists.proofs.Bools.{by-bool, true-false, is-false, bool-ext, and-intro, and-left, and-right, or-cases, or-left, or-right, not-intro, not-elim}
 use Rattle.lists.proofs.Members.{all-at, all-intro, any-at, any-intro, filter-cong, filter-in, filter-none, filter-out, filter-parts, range-in, range-out}
 use Rattle.lists.proofs.Nodup.{nodup-cons, nodup-filter, nodup-same}
-use Rattle.asp.specs.Program.{Body, Rule, Program, State, outside, holds}
+use Rattle.asp.specs.Program.{Body, State, outside, holds}
 use Rattle.asp.specs.LeastModel.{Definite, consequences, leastModel, Inside}
 use Rattle.asp.specs.Least.{Least}
-use Rattle.asp.specs.StableModel.{definite, reduct, derived, lawful, isStable}
-use Rattle.asp.specs.Count.{empty, with, states, stableModels, count}
-use Rattle.search.specs.inner.Decided.{CountRule, countRules, definites, applies, isStableBy, agrees, surely, possibly, countBy}
+use Rattle.asp.specs.StableModel.{definite, lawful}
+use Rattle.asp.specs.Count.{with, states}
+use Rattle.search.specs.inner.Decided.{CountRule, definites, applies, isStableBy, agrees, surely, possibly, countBy}
 use Rattle.asp.proofs.Rounds.{Operator, iterate-least, iterate-below}
 use Rattle.asp.proofs.Same.{beq-in, beq-out}
 use Rattle.asp.proofs.Counted.{states-within, states-all, states-distinct}
@@ -117,7 +117,7 @@ module _ (n : ℕ) (rs : List CountRule) (low : (r : CountRule) → List·Memᴰ
         same : (a : ℕ) → X a ≡ leastModel n (definites (applies X) rs) a
         same a = bool-ext (λ x. sym (at-atom a (within a x)) ∙ x) (λ d. at-atom a (definites-below (applies X) a d) ∙ d)
 
-    stable-by-in : (X : State) → StableBy X → isStableBy n rs cs X ≡ true
+    pub stable-by-in : (X : State) → StableBy X → isStableBy n rs cs X ≡ true
     unfolding isStableBy
     stable-by-in X S =
         let same = least-same (consequences (definites (applies X) rs)) X (leastModel n (definites (applies X) rs)) (S .least) (definites-least (applies X)) in
@@ -258,24 +258,3 @@ count-split n rs cs i o c l =
     ∙ ap (λ k. length (filter (λ X. isStableBy n rs cs X && agrees n (with c i) o X) (states n)) + k)
     (ap length (filter-cong (λ X. isStableBy n rs cs X && agrees n i o X && not (X c)) (λ X. isStableBy n rs cs X && agrees n i (with c o) X) (states n) (λ X _.
     and-assoc (isStableBy n rs cs X) (agrees n i o X) (not (X c)) ∙ ap (λ (b : Bool). isStableBy n rs cs X && b) (sym (agree-with-out n c l i o X))))))
-
--- With nothing decided every stable model is counted.
-definites-reduct : (X : State) (rs : List Rule) → definites (applies X) (map (λ r. record { rule = r; free = false }) rs) ≡ reduct X rs
-unfolding reduct filter
-definites-reduct X [] = refl
-definites-reduct X (r ∷ rs) =
-    by-bool (outside X (r .body .neg)) (λ t. rw t (ap (λ l. definite r ∷ l) (definites-reduct X rs))) (λ f. rw f (definites-reduct X rs))
-
-empty-none : (a : ℕ) → empty a ≡ true → ⊥
-unfolding empty
-empty-none a e = true-false e refl
-
-pub count-start : (P : Program) → countBy (P .atoms) (countRules P) (P .constraints) empty empty ≡ count P
-unfolding countBy count stableModels isStableBy isStable derived lawful countRules
-count-start P =
-    ap length (filter-cong (λ X. isStableBy (P .atoms) (countRules P) (P .constraints) X && agrees (P .atoms) empty empty X) (isStable P) (states (P .atoms)) (λ X _. same X))
-  where
-    same : (X : State) → (isStableBy (P .atoms) (countRules P) (P .constraints) X && agrees (P .atoms) empty empty X) ≡ isStable P X
-    same X =
-        rw (agree-make (P .atoms) empty empty X (λ a l e. absurd (empty-none a e)) (λ a l e. absurd (empty-none a e)))
-        (and-true _ ∙ ap (λ D. all (λ a. Bool·beq (X a) (leastModel (P .atoms) D a)) (range 0 (P .atoms)) && all (λ b. not (holds X b)) (P .constraints)) (definites-reduct X (P .rules)))

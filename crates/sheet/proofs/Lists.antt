@@ -1,5 +1,5 @@
 -- Laws of questions 5 and 6, one for each way out of their tests.
-use mathlib.Core.Bool.{Bool, true, false, _&&_, or-false}
+use mathlib.Core.Bool.{Bool, true, false, _&&_, _||_, or-false}
 use mathlib.Core.List.{List, [], _∷_}
 use mathlib.Core.Path.{_≡_, refl, sym, _∙_, ap}
 use Prim.Native.Nat.{ℕ, suc, _+_, _≤_, _<_}
@@ -17,15 +17,19 @@ use Rattle.sheet.specs.Format.{kindFits, rising, listFits}
 
 pub kind-rule : (n k h : ℕ) → k ≡ 0 → ltb h n ≡ kindFits n k h
 unfolding kindFits
-kind-rule n k h e = rw e (sym (or-false (ltb h n)))
+kind-rule n k h e = rw e (sym (or-false (ltb h n || false) ∙ or-false (ltb h n)))
 
 pub kind-constraint : (n k h : ℕ) → k ≡ 1 → eqb h 0 ≡ kindFits n k h
 unfolding kindFits
-kind-constraint n k h e = rw e refl
+kind-constraint n k h e = rw e (sym (or-false (eqb h 0)))
 
-pub kind-other : (n k h : ℕ) → (k ≡ 0 → ⊥) → (k ≡ 1 → ⊥) → false ≡ kindFits n k h
+pub kind-choice : (n k h : ℕ) → k ≡ 2 → ltb h n ≡ kindFits n k h
 unfolding kindFits
-kind-other n k h p q = rw (ne-eqb k 0 p, ne-eqb k 1 q) refl
+kind-choice n k h e = rw e refl
+
+pub kind-other : (n k h : ℕ) → (k ≡ 0 → ⊥) → (k ≡ 1 → ⊥) → (k ≡ 2 → ⊥) → false ≡ kindFits n k h
+unfolding kindFits
+kind-other n k h p q r = rw (ne-eqb k 0 p, ne-eqb k 1 q, ne-eqb k 2 r) refl
 
 -- Behind an element a.
 climb-behind : (n a : ℕ) (l : List ℕ) → climb (suc a) n l ≡ (below n l && rising (a ∷ l))

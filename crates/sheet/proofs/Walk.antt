@@ -1,22 +1,21 @@
--- Laws of walks over the records of a sheet that has passed questions 1 to 6, and its program is well formed.
-use mathlib.Core.Bool.{Bool, true, false, _&&_}
-use mathlib.Core.List.{List, List·Memᴰ, List·Memᴰ·not-nil, List·Memᴰ·cases-cons, Memᴰ·of-map}
+-- Laws of walks over the records of a sheet that has passed questions 1 to 6.
+use mathlib.Core.Bool.{Bool, true, false}
+use mathlib.Core.List.{List, List·Memᴰ·not-nil, List·Memᴰ·cases-cons}
 use mathlib.Core.Logic.{⊎-elim}
 use mathlib.Core.Path.{_≡_, refl, sym, _∙_, subst}
 use Prim.Native.Nat.{ℕ, zero, suc, _≤_, _<_}
 use native.Mathlib.Numerals.{sub-one}
 use native.Mathlib.Omega.{arith}
 use borrow.Author.Tests.{eqb-true, eq-eqb, ne-eqb, leb-true}
-use lib.Dec.{eqb, ltb, leb}
+use lib.Dec.{eqb, leb}
 use lib.ListN.{length}
-use Rattle.lists.specs.Lists.{below, filter}
-use Rattle.lists.proofs.Bools.{by-bool, true-false, and-intro, and-left, and-right, or-cases}
-use Rattle.lists.proofs.Members.{all-intro, filter-out}
-use Rattle.asp.specs.Program.{bodyBelow, ruleBelow, wellFormed}
+use Rattle.lists.specs.Lists.{below}
+use Rattle.lists.proofs.Bools.{by-bool, true-false, and-intro, and-left, and-right}
+use Rattle.asp.specs.Program.{bodyBelow}
 use Rattle.sheet.specs.Questions.{ask, _then_}
-use Rattle.sheet.specs.Format.{end, posOf, negOf, kind, head, complete, kindFits, kindPasses, rising, listFits, listsFit, limited, opens, measured, recordQuestions, recordsQuestions, atomsByte, recordsByte}
-use Rattle.sheet.specs.inner.Walk.{formQuestions, Known, Walk, Stepped}
-use Rattle.sheet.specs.Sheet.{Record, recordAt, recordsFrom, records, rulesOf, constraintsOf, programOf, program}
+use Rattle.sheet.specs.Format.{end, posOf, negOf, complete, kindPasses, rising, listFits, listsFit, limited, opens, measured, recordQuestions, recordsQuestions, atomsByte, recordsByte}
+use Rattle.sheet.specs.inner.Walk.{formQuestions, Known, Walk, Stepped, Sound, AllSound}
+use Rattle.sheet.specs.Sheet.{recordAt, recordsFrom, records}
 use Rattle.sheet.specs.declared.Limits.{Limits}
 use Rattle.sheet.proofs.Records.{complete-out}
 
@@ -79,10 +78,6 @@ formed L s e =
     }
 
 -- The records of a walk name atoms below n.
-pub record Sound (n : ℕ) (r : Record) : Type 0 where
-  pub kinds : kindFits n (r .kind) (r .head) ≡ true
-  pub atoms : bodyBelow n (r .body) ≡ true
-
 sound : (s : List ℕ) (n at : ℕ) → Known s n at → Sound n (recordAt s at)
 unfolding recordAt kindPasses listsFit listFits bodyBelow
 sound s n at K =
@@ -93,7 +88,7 @@ sound s n at K =
           (and-left (below n (negOf s at)) (rising (negOf s at)) (and-right (listFits n (posOf s at)) (listFits n (negOf s at)) (K .lists)));
     }
 
-pub walk-sound : (s : List ℕ) (n left at : ℕ) → Walk s n left at → (r : Record) → List·Memᴰ r (recordsFrom left s at) → Sound n r
+pub walk-sound : (s : List ℕ) (n left at : ℕ) → Walk s n left at → AllSound n (recordsFrom left s at)
 unfolding recordsFrom recordsQuestions
 walk-sound s n zero at W r m = absurd (List·Memᴰ·not-nil m)
 walk-sound s n (suc left) at W r m =
@@ -101,27 +96,6 @@ walk-sound s n (suc left) at W r m =
     ⊎-elim (λ e. subst (Sound n) (sym e) (sound s n at (known n s at (p .0)))) (λ k. walk-sound s n left (end s at) (record { passed = p .1 }) r k)
     (List·Memᴰ·cases-cons m)
 
-pub walk-formed : (s : List ℕ) (n m : ℕ) → Walk s n m 5 → wellFormed (programOf n (recordsFrom m s 5)) ≡ true
-unfolding programOf wellFormed rulesOf constraintsOf ruleBelow kindFits
-walk-formed s n m W =
-    and-intro
-    (all-intro (ruleBelow n) (rulesOf rs) (λ r k. let u = Memᴰ·of-map (λ (r : Record). record { head = r .head; body = r .body }) (filter (λ r. eqb (r .kind) 0) rs) k in
-    let f = filter-out (λ (r : Record). eqb (r .kind) 0) rs (u .0) (u .1) in
-    subst (λ x. ruleBelow n x ≡ true) (u .2) (and-intro (low (u .0) (f .1) (walk-sound s n m 5 W (u .0) (f .0) .kinds)) (walk-sound s n m 5 W (u .0) (f .0) .atoms))))
-    (all-intro (bodyBelow n) (constraintsOf rs) (λ b k. let u = Memᴰ·of-map (λ (r : Record). r .body) (filter (λ r. eqb (r .kind) 1) rs) k in
-    let f = filter-out (λ (r : Record). eqb (r .kind) 1) rs (u .0) (u .1) in
-    subst (λ x. bodyBelow n x ≡ true) (u .2) (walk-sound s n m 5 W (u .0) (f .0) .atoms)))
-  where
-    rs : List Record
-    rs = recordsFrom m s 5
-
-    low : (r : Record) → eqb (r .kind) 0 ≡ true → kindFits n (r .kind) (r .head) ≡ true → ltb (r .head) n ≡ true
-    low r z e =
-        let zero-kind = eqb-true (r .kind) 0 z in
-        ⊎-elim (λ p. and-right (eqb (r .kind) 0) (ltb (r .head) n) p)
-        (λ p. absurd (let one = eqb-true (r .kind) 1 (and-left (eqb (r .kind) 1) (eqb (r .head) 0) p) in omega arith))
-        (or-cases (eqb (r .kind) 0 && ltb (r .head) n) (eqb (r .kind) 1 && eqb (r .head) 0) e)
-
-pub program-formed : (L : Limits) (s : List ℕ) → formQuestions L s ≡ 0 → wellFormed (program s) ≡ true
-unfolding program records
-program-formed L s e = walk-formed s (atomsByte s) (recordsByte s) (formed L s e .walk)
+pub records-sound : (L : Limits) (s : List ℕ) → formQuestions L s ≡ 0 → AllSound (atomsByte s) (records s)
+unfolding records
+records-sound L s e = walk-sound s (atomsByte s) (recordsByte s) 5 (formed L s e .walk)

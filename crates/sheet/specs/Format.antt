@@ -69,9 +69,9 @@ limited L s = leb (atomsByte s) (L .atoms) && leb (recordsByte s) (L .records)
 unfoldable pub complete : List ℕ → ℕ → Bool
 complete s at = ltb at (length s) && leb 3 (size s at) && leb (end s at) (length s) && leb (positives s at) (size s at - 3)
 
--- Question 5: kind 0 with head below n, or 1 with head 0.
+-- Question 5: kind 0 or 2 with head below n, or 1 with head 0.
 unfoldable pub kindFits : ℕ → ℕ → ℕ → Bool
-kindFits n k h = eqb k 0 && ltb h n || eqb k 1 && eqb h 0
+kindFits n k h = eqb k 0 && ltb h n || eqb k 1 && eqb h 0 || eqb k 2 && ltb h n
 
 -- The same of the record at `at`.
 unfoldable pub kindPasses : ℕ → List ℕ → ℕ → Bool

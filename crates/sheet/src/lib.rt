@@ -26,6 +26,9 @@ fn kind_fits(kind: usize, head: usize, n: usize) -> bool
     if kind == 1 {
         return head == 0;
     }
+    if kind == 2 {
+        return head < n;
+    }
     false
 }
 

@@ -1,287 +1,326 @@
--- Laws of putting the records of a kind behind entries.
+-- Laws of putting the rules and the constraints of records behind entries.
 use mathlib.Core.Bool.{Bool, true, false, cond}
 use mathlib.Core.List.{List, [], _∷_, _++_, map, map-append, map-map, append-nil, append-assoc}
 use mathlib.Core.Path.{_≡_, refl, sym, _∙_, ap, ap₂}
-use Prim.Native.Nat.{ℕ, _+_, _-_, _*_, _^_, _≤_, _<_}
+use Prim.Native.Nat.{ℕ, suc, _+_, _-_, _%_, _^_, _≤_, _<_}
 use native.Mathlib.Nat.{zero-add}
 use native.Mathlib.Omega.{arith}
-use borrow.Author.Tests.{eqb-true, ne-eqb}
+use borrow.Author.Tests.{eq-eqb, eqb-true, ne-eqb}
 use lib.Dec.{eqb}
 use lib.ListN.{length, length-append, length-map, length-set, getD, set, take, drop, replicate, length-replicate}
 use lib.Seq.{getD-set-same, getD-set-other, take-at, drop-at}
 use Rattle.lists.specs.Lists.{filter, range}
 use Rattle.lists.proofs.Bools.{by-bool}
-use Rattle.lists.proofs.Members.{range-left, range-over, range-append}
+use Rattle.lists.proofs.Members.{range-append}
 use Rattle.lists.proofs.Nodup.{length-range}
 use Rattle.lists.proofs.Tables.{range-grown}
 use Rattle.asp.specs.Program.{Rule}
-use Rattle.sheet.specs.Sheet.{Record, rulesOf, constraintsOf, programOf}
-use Rattle.program.specs.inner.Held.{ruleOf, rulesAt, bodiesAt, programIn}
-use Rattle.reader.specs.inner.Tabled.{recordOf, recordsAt}
-use Rattle.translation.specs.inner.Translated.{Records, recordsIn, Entries, entries, Long, ofKind, entriesIn, Room, StoredIf, Appended, Translated}
+use Rattle.bits.specs.inner.Sets.{has}
+use Rattle.bits.specs.inner.Visited.{listed}
+use Rattle.bits.proofs.Visiting.{listed-member}
+use Rattle.sheet.specs.Sheet.{Record, ruleIn, adding, unless, recordRules, nextFresh, rulesOf, constraintsOf, choices, programOf}
+use Rattle.program.specs.inner.Held.{addedAtom, bodyOf, ruleOf, rulesAt, bodiesAt, programIn}
+use Rattle.reader.specs.inner.Tabled.{recordOf}
+use Rattle.translation.specs.declared.SheetRecord.{SheetRecord}
+use Rattle.translation.specs.inner.Records.{Records, recordsFrom, recordsIn, recordIn, recordAtIndex, RecordAt, Expandable, FreshFor}
+use Rattle.translation.specs.inner.Translated.{Entries, entries, entriesIn, Room, Appended, AddedTo, constraintOf, constraintsFrom, Translated}
+use Rattle.translation.proofs.Records.{records-left, records-over, records-all, length-records, record-is, Numbering, numbering-start, numbering-turn, numbering-end, fresh-for}
+
+-- The atom that is added.
+pub added-there : (neg a : ℕ) (b : Bool) → neg < 2 ^ 64 → b ≡ has neg a → b ≡ true → AddedTo neg a 0
+unfolding addedAtom adding
+added-there neg a b w e t = record { is = rw (listed-member neg a w ∙ (sym e ∙ t)) (append-nil (listed neg)) }
+
+pub added-last : (neg a : ℕ) (b : Bool) → neg < 2 ^ 64 → b ≡ has neg a → b ≡ false → a < 64 → AddedTo neg a ((a + 1) % 256)
+unfolding addedAtom adding
+added-last neg a b w e f l =
+    let small : (a + 1) % 256 ≡ suc a = omega arith in
+    record { is = rw (listed-member neg a w ∙ (sym e ∙ f), small) refl }
 
 -- One store.
-module _ (k head p q : ℕ) (heads pos neg : List ℕ) (b : Bool) where
-  pub stored-yes : b ≡ true → StoredIf k b head p q heads pos neg (set heads k head) (set pos k p) (set neg k q) (k + 1)
-  stored-yes t = rw t (record { heads = refl; pos = refl; neg = refl; next = refl })
-
-  pub stored-no : b ≡ false → StoredIf k b head p q heads pos neg heads pos neg k
-  stored-no f = rw f (record { heads = refl; pos = refl; neg = refl; next = refl })
-
-module _ (k : ℕ) (b : Bool) (hs ps ns : List ℕ) (L : Long k b hs ps ns) (y : b ≡ true) where
-  pub long-index : k < 128
-  long-index = L .room y
-
-  pub long-scale : k * 8 < 2 ^ 64
-  long-scale = let l = long-index in omega arith
-
-  pub long-next : k + 1 < 2 ^ 64
-  long-next = let l = long-index in omega arith
-
-length-rules : (hs ps ns : List ℕ) (j k : ℕ) → length (rulesAt hs ps ns j k) ≡ k
+length-rules : (hs ps ns ads : List ℕ) (j k : ℕ) → length (rulesAt hs ps ns ads j k) ≡ k
 unfolding rulesAt
-length-rules hs ps ns j k = length-map (range j k) (λ i. ruleOf (getD hs i 0) (getD ps i 0) (getD ns i 0)) ∙ length-range j k
+length-rules hs ps ns ads j k = length-map (range j k) (λ i. ruleOf (getD hs i 0) (getD ps i 0) (getD ns i 0) (getD ads i 0)) ∙ length-range j k
 
--- One entry more.
-rules-more : (hs ps ns : List ℕ) (k h p q : ℕ) → k < length hs → k < length ps → k < length ns
-    → rulesAt (set hs k h) (set ps k p) (set ns k q) 0 (k + 1) ≡ rulesAt hs ps ns 0 k ++ (ruleOf h p q ∷ [])
-unfolding rulesAt
-rules-more hs ps ns k h p q lh lp ln =
-    range-grown (λ i. ruleOf (getD hs i 0) (getD ps i 0) (getD ns i 0)) (λ i. ruleOf (getD (set hs k h) i 0) (getD (set ps k p) i 0) (getD (set ns k q) i 0)) k (ruleOf h p q)
-    (λ i l. let ne : (i ≡ k → ⊥) = λ e. omega arith in rw (getD-set-other hs k i h 0 ne, getD-set-other ps k i p 0 ne, getD-set-other ns k i q 0 ne) refl)
-    (rw (getD-set-same hs k h 0 lh, getD-set-same ps k p 0 lp, getD-set-same ns k q 0 ln) refl)
+length-entries : (e : Entries) → length (entriesIn e) ≡ e .k
+unfolding entriesIn
+length-entries e = length-rules (e .heads) (e .pos) (e .neg) (e .added) 0 (e .k)
 
--- The loop: the entries, with what is left of the records of the kind behind them, are all that are to stand there.
-pub record Appending (e : Entries) (t : Records) (kind j : ℕ) (hs ps ns : List ℕ) (k : ℕ) : Type 0 where
-  pub list : rulesAt hs ps ns 0 k ++ ofKind kind (recordsAt (t .kinds) (t .heads) (t .pos) (t .neg) j (t .count - j)) ≡ entriesIn e ++ ofKind kind (recordsIn t)
-  pub heads : length hs ≡ 128
-  pub pos : length ps ≡ 128
-  pub neg : length ns ≡ 128
+module _ (k : ℕ) (hs ps ns ads : List ℕ) (R : Room 1 (entries k hs ps ns ads)) where
+  pub stored : (h p q a : ℕ) → Appended (entries k hs ps ns ads) (ruleOf h p q a ∷ []) (entries (k + 1) (set hs k h) (set ps k p) (set ns k q) (set ads k a))
+  unfolding entriesIn rulesAt
+  stored h p q a =
+      let l = R .room in
+      let lh = R .heads in
+      let lp = R .pos in
+      let ln = R .neg in
+      let la = R .added in
+      record {
+        long = record { heads = length-set hs k h ∙ lh; pos = length-set ps k p ∙ lp; neg = length-set ns k q ∙ ln; added = length-set ads k a ∙ la; room = omega arith };
+        is = range-grown (λ i. ruleOf (getD hs i 0) (getD ps i 0) (getD ns i 0) (getD ads i 0))
+            (λ i. ruleOf (getD (set hs k h) i 0) (getD (set ps k p) i 0) (getD (set ns k q) i 0) (getD (set ads k a) i 0)) k (ruleOf h p q a)
+            (λ i l. let ne : (i ≡ k → ⊥) = λ e. omega arith in rw (getD-set-other hs k i h 0 ne, getD-set-other ps k i p 0 ne, getD-set-other ns k i q 0 ne, getD-set-other ads k i a 0 ne) refl)
+            (rw (getD-set-same hs k h 0 (omega arith), getD-set-same ps k p 0 (omega arith), getD-set-same ns k q 0 (omega arith), getD-set-same ads k a 0 (omega arith)) refl);
+        size = refl;
+      }
 
-module _ (e : Entries) (t : Records) (kind : ℕ) where
-  appending-start : Room e (ofKind kind (recordsIn t)) → Appending e t kind 0 (e .heads) (e .pos) (e .neg) (e .k)
-  unfolding entriesIn
-  appending-start R = record { list = rw (let z : t .count - 0 ≡ t .count = omega arith in z) refl; heads = R .heads; pos = R .pos; neg = R .neg }
+-- Stores behind stores.
+appended-none : (more : ℕ) (e : Entries) → Room more e → Appended e [] e
+appended-none more e R =
+    let l = R .room in
+    record { long = record { heads = R .heads; pos = R .pos; neg = R .neg; added = R .added; room = omega arith }; is = sym (append-nil (entriesIn e)); size = omega arith }
 
-  -- The records from j on: that at j, and those behind it.
-  here : ℕ → Rule
-  here j = ruleOf (getD (t .heads) j 0) (getD (t .pos) j 0) (getD (t .neg) j 0)
+appended-both : (e m r : Entries) (x y : List Rule) → Appended e x m → Appended m y r → Appended e (x ++ y) r
+appended-both e m r x y A B =
+    let s = A .size in
+    let t = B .size in
+    let n = length-append x y in
+    record { long = B .long; is = B .is ∙ (ap (λ l. l ++ y) (A .is) ∙ append-assoc (entriesIn e) x y); size = omega arith }
 
-  rest : ℕ → List Rule
-  rest j = ofKind kind (recordsAt (t .kinds) (t .heads) (t .pos) (t .neg) j (t .count - j))
+room-more : (a b : ℕ) (e : Entries) → a ≤ b → Room b e → Room a e
+room-more a b e l R = let r = R .room in record { heads = R .heads; pos = R .pos; neg = R .neg; added = R .added; room = omega arith }
 
-  rest-next : (j : ℕ) → j < t .count → rest j ≡ cond (eqb (getD (t .kinds) j 0) kind) (here j ∷ rest (j + 1)) (rest (j + 1))
-  unfolding recordsAt ofKind filter here rest recordOf ruleOf
-  rest-next j l =
-      ap (λ r. ofKind kind (map (λ i. recordOf (getD (t .kinds) i 0) (getD (t .heads) i 0) (getD (t .pos) i 0) (getD (t .neg) i 0)) r)) (range-left j (t .count) l)
-      ∙ by-bool (eqb (getD (t .kinds) j 0) kind) (λ y. rw y refl) (λ f. rw f refl)
+-- The rule of a record as an entry.
+plain-entry : (h p q : ℕ) → ruleOf h p q 0 ≡ record { head = h; body = record { pos = listed p; neg = listed q } }
+unfolding ruleOf bodyOf addedAtom
+plain-entry h p q = ap (λ l. record { head = h; body = record { pos = listed p; neg = l } }) (append-nil (listed q))
 
-  module _ (j k : ℕ) (hs ps ns : List ℕ) (A : Appending e t kind j hs ps ns k) (l : j < t .count) (w : ℕ) (b : Bool) (W : w ≡ getD (t .kinds) j 0) (B : b ≡ eqb w kind) where
-    is-kind : b ≡ eqb (getD (t .kinds) j 0) kind
-    is-kind = B ∙ ap (λ i. eqb i kind) W
+unless-entry : (h p q a r : ℕ) → AddedTo q a r → ruleOf h p q r ≡ unless h (record { pos = listed p; neg = listed q }) a
+unfolding ruleOf bodyOf unless
+unless-entry h p q a r A = ap (λ l. record { head = h; body = record { pos = listed p; neg = l } }) (A .is)
 
-    appending-long : Room e (ofKind kind (recordsIn t)) → Long k b hs ps ns
-    unfolding rest entriesIn
-    appending-long R =
-        record {
-          heads = A .heads;
-          pos = A .pos;
-          neg = A .neg;
-          room = λ y.
-              let n = ap length (A .list) in
-              let u = length-append (rulesAt hs ps ns 0 k) (rest j) in
-              let v = length-append (entriesIn e) (ofKind kind (recordsIn t)) in
-              let a = length-rules hs ps ns 0 k in
-              let c = length-rules (e .heads) (e .pos) (e .neg) 0 (e .k) in
-              let next : rest j ≡ here j ∷ rest (j + 1) = rest-next j l ∙ rw (sym is-kind ∙ y) refl in
-              let more = ap length next in
-              let r = R .room in
-              omega arith;
-        }
+module _ (r : SheetRecord) (fresh k : ℕ) (K : k ≡ r .kind) (e : Entries) where
+  module _ (R : Room (length (recordRules fresh (recordIn r))) e) where
+    module _ (z : k ≡ 0) where
+      one-rule : recordRules fresh (recordIn r) ≡ ruleOf (r .head) (r .pos) (r .neg) 0 ∷ []
+      unfolding recordRules recordOf
+      one-rule = rw (eq-eqb (r .kind) 0 (sym K ∙ z)) (ap (λ (x : Rule). x ∷ []) (sym (plain-entry (r .head) (r .pos) (r .neg))))
 
-    appending-turn : (hs′ ps′ ns′ : List ℕ) (r : ℕ) → Room e (ofKind kind (recordsIn t)) → StoredIf k b (getD (t .heads) j 0) (getD (t .pos) j 0) (getD (t .neg) j 0) hs ps ns hs′ ps′ ns′ r
-        → Appending e t kind (j + 1) hs′ ps′ ns′ r
-    unfolding rest here
-    appending-turn hs′ ps′ ns′ r R S =
-        by-bool b
-        (λ y.
-        let room = appending-long R .room y in
-        let h = A .heads in
-        let p = A .pos in
-        let n = A .neg in
-        let eh : hs′ ≡ set hs k (getD (t .heads) j 0) = rw y at (S .heads) in
-        let ep : ps′ ≡ set ps k (getD (t .pos) j 0) = rw y at (S .pos) in
-        let en : ns′ ≡ set ns k (getD (t .neg) j 0) = rw y at (S .neg) in
-        let ek : r ≡ k + 1 = rw y at (S .next) in
-        rw (eh, ep, en, ek)
-        (record {
-          list = ap (λ x. x ++ rest (j + 1)) (rules-more hs ps ns k _ _ _ (omega arith) (omega arith) (omega arith))
-              ∙ (append-assoc (rulesAt hs ps ns 0 k) _ _ ∙ (ap (λ x. rulesAt hs ps ns 0 k ++ x) (let next : rest j ≡ here j ∷ rest (j + 1) = rest-next j l ∙ rw (sym is-kind ∙ y) refl in sym next) ∙ A .list));
-          heads = length-set hs k _ ∙ h;
-          pos = length-set ps k _ ∙ p;
-          neg = length-set ns k _ ∙ n;
-        }))
-        (λ f.
-        let eh : hs′ ≡ hs = rw f at (S .heads) in
-        let ep : ps′ ≡ ps = rw f at (S .pos) in
-        let en : ns′ ≡ ns = rw f at (S .neg) in
-        let ek : r ≡ k = rw f at (S .next) in
-        rw (eh, ep, en, ek)
-        (record {
-          list = ap (λ x. rulesAt hs ps ns 0 k ++ x) (let next : rest j ≡ rest (j + 1) = rest-next j l ∙ rw (sym is-kind ∙ f) refl in sym next) ∙ A .list;
-          heads = A .heads;
-          pos = A .pos;
-          neg = A .neg;
-        }))
+      pub rule-room : Room 1 e
+      rule-room = let n = ap length one-rule in room-more 1 _ e (omega arith) R
 
-  appending-end : (j k : ℕ) (hs ps ns : List ℕ) → Appending e t kind j hs ps ns k → t .count ≤ j → Appended e (ofKind kind (recordsIn t)) (record { k = k; heads = hs; pos = ps; neg = ns })
-  unfolding recordsAt ofKind filter entriesIn
-  appending-end j k hs ps ns A l =
-      let is : rulesAt hs ps ns 0 k ++ [] ≡ entriesIn e ++ ofKind kind (recordsIn t) = rw (range-over j (t .count) l) at (A .list) in
-      let same = sym (append-nil (rulesAt hs ps ns 0 k)) ∙ is in
-      let n = ap length same in
-      let v = length-append (entriesIn e) (ofKind kind (recordsIn t)) in
-      let a = length-rules hs ps ns 0 k in
-      let c = length-rules (e .heads) (e .pos) (e .neg) 0 (e .k) in
-      record { heads = A .heads; pos = A .pos; neg = A .neg; is = same; size = omega arith }
+      pub rule-stored : (m : Entries) → Appended e (ruleOf (r .head) (r .pos) (r .neg) 0 ∷ []) m → Appended e (recordRules fresh (recordIn r)) m
+      rule-stored m A = rw one-rule A
 
--- The two kinds together are no more than the records.
-kinds-few : (rs : List Record) → length (ofKind 0 rs) + length (ofKind 1 rs) ≤ length rs
-unfolding ofKind filter
-kinds-few [] = omega arith
-kinds-few (r ∷ rs) =
-    let n = kinds-few rs in
+    module _ (z : k ≡ 2) where
+      module _ (a b : ℕ) (A : AddedTo (r .neg) fresh a) where
+        abbrev first-entry : List Rule
+        first-entry = ruleOf (r .head) (r .pos) (r .neg) a ∷ []
+
+        two-rules : AddedTo (r .neg) (r .head) b → recordRules fresh (recordIn r) ≡ first-entry ++ (ruleOf fresh (r .pos) (r .neg) b ∷ [])
+        unfolding recordRules recordOf
+        two-rules B =
+            rw (ne-eqb (r .kind) 0 (λ e. omega arith), eq-eqb (r .kind) 2 (sym K ∙ z))
+            (ap₂ (λ (x y : Rule). x ∷ y ∷ []) (sym (unless-entry (r .head) (r .pos) (r .neg) fresh a A)) (sym (unless-entry fresh (r .pos) (r .neg) (r .head) b B)))
+
+      two : length (recordRules fresh (recordIn r)) ≡ 2
+      unfolding recordRules recordOf
+      two = rw (ne-eqb (r .kind) 0 (λ e. omega arith), eq-eqb (r .kind) 2 (sym K ∙ z)) refl
+
+      pub choice-room : Room 1 e
+      choice-room = room-more 1 _ e (omega (arith, two)) R
+
+      pub choice-second : (a : ℕ) (m : Entries) → Appended e (ruleOf (r .head) (r .pos) (r .neg) a ∷ []) m → Room 1 m
+      choice-second a m A =
+          let L = A .long in
+          let l = R .room in
+          let s = A .size in
+          record { heads = L .heads; pos = L .pos; neg = L .neg; added = L .added; room = omega (arith, two) }
+
+      pub choice-stored : (a b h : ℕ) → AddedTo (r .neg) fresh a → h ≡ r .head → AddedTo (r .neg) h b → fresh < 64
+          → (m n : Entries) → Appended e (ruleOf (r .head) (r .pos) (r .neg) a ∷ []) m → Appended m (ruleOf (fresh % 256) (r .pos) (r .neg) b ∷ []) n
+          → Appended e (recordRules fresh (recordIn r)) n
+      choice-stored a b h A H B l m n M N =
+          let same : fresh % 256 ≡ fresh = omega arith in
+          rw (two-rules a b A (rw H at B)) (appended-both e m n (first-entry a b A) (ruleOf fresh (r .pos) (r .neg) b ∷ []) M (rw same at N))
+
+    pub none-stored : (k ≡ 0 → ⊥) → (k ≡ 2 → ⊥) → Appended e (recordRules fresh (recordIn r)) e
+    unfolding recordRules recordOf
+    none-stored z t =
+        let A = appended-none _ e R in
+        rw (ne-eqb (r .kind) 0 (λ e. z (K ∙ e)), ne-eqb (r .kind) 2 (λ e. t (K ∙ e))) A
+
+  module _ (R : Room (length (constraintOf (recordIn r))) e) where
+    module _ (z : k ≡ 1) where
+      one-constraint : constraintOf (recordIn r) ≡ ruleOf (r .head) (r .pos) (r .neg) 0 ∷ []
+      unfolding constraintOf recordOf
+      one-constraint = rw (eq-eqb (r .kind) 1 (sym K ∙ z)) (ap (λ (x : Rule). x ∷ []) (sym (plain-entry (r .head) (r .pos) (r .neg))))
+
+      pub constraint-room : Room 1 e
+      constraint-room = let n = ap length one-constraint in room-more 1 _ e (omega arith) R
+
+      pub constraint-stored : (m : Entries) → Appended e (ruleOf (r .head) (r .pos) (r .neg) 0 ∷ []) m → Appended e (constraintOf (recordIn r)) m
+      constraint-stored m A = rw one-constraint A
+
+    pub no-constraint : (k ≡ 1 → ⊥) → Appended e (constraintOf (recordIn r)) e
+    unfolding constraintOf recordOf
+    no-constraint z = let A = appended-none _ e R in rw (ne-eqb (r .kind) 1 (λ e. z (K ∙ e))) A
+
+-- Rules and constraints together are no more than the records and the choice rules.
+entries-few : (f : ℕ) (rs : List Record) → length (rulesOf f rs) + length (constraintsFrom rs) ≤ length rs + choices rs
+unfolding rulesOf recordRules constraintsFrom choices filter
+entries-few f [] = omega arith
+entries-few f (r ∷ rs) =
+    let n = entries-few (nextFresh f r) rs in
+    let rest = rulesOf (nextFresh f r) rs in
     by-bool (eqb (r .kind) 0)
-    (λ z. let one : eqb (r .kind) 1 ≡ false = ne-eqb (r .kind) 1 (λ u. let v = eqb-true (r .kind) 0 z in omega arith) in rw (z, one) (omega arith))
-    (λ z. by-bool (eqb (r .kind) 1) (λ u. rw (z, u) (omega arith)) (λ u. rw (z, u) (omega arith)))
+    (λ z.
+    let k = eqb-true (r .kind) 0 z in
+    rw (z, ne-eqb (r .kind) 1 (λ e. omega arith), ne-eqb (r .kind) 2 (λ e. omega arith)) (omega arith))
+    (λ z. by-bool (eqb (r .kind) 2)
+    (λ t.
+    let k = eqb-true (r .kind) 2 t in
+    rw (z, t, ne-eqb (r .kind) 1 (λ e. omega arith)) (omega arith))
+    (λ t. by-bool (eqb (r .kind) 1) (λ o. rw (z, t, o) (omega arith)) (λ o. rw (z, t, o) (omega arith))))
 
-length-records : (t : Records) → length (recordsIn t) ≡ t .count
-unfolding recordsAt
-length-records t = length-map (range 0 (t .count)) (λ i. recordOf (getD (t .kinds) i 0) (getD (t .heads) i 0) (getD (t .pos) i 0) (getD (t .neg) i 0)) ∙ length-range 0 (t .count)
+constraints-left : (r : Record) (rs : List Record) → constraintsFrom (r ∷ rs) ≡ constraintOf r ++ constraintsFrom rs
+unfolding constraintsFrom constraintOf filter
+constraints-left r rs = by-bool (eqb (r .kind) 1) (λ t. rw t refl) (λ f. rw f refl)
+
+-- The first loop: the entries, with the rules of the records that are left behind them, are the rules of all.
+pub record Ruling (n : ℕ) (t : Records) (j fresh : ℕ) (e : Entries) : Type 0 where
+  pub number : Numbering n t j fresh
+  pub long : Room 0 e
+  pub list : entriesIn e ++ rulesOf fresh (recordsFrom t j) ≡ rulesOf n (recordsIn t)
+
+-- The second loop: the same of the constraints, behind the rules.
+pub record Constraining (n : ℕ) (t : Records) (rules i : ℕ) (e : Entries) : Type 0 where
+  pub size : rules ≡ length (rulesOf n (recordsIn t))
+  pub long : Room 0 e
+  pub list : entriesIn e ++ constraintsFrom (recordsFrom t i) ≡ rulesOf n (recordsIn t) ++ constraintsFrom (recordsIn t)
+
+abbrev nothing : Entries
+nothing = entries 0 (replicate 192 0) (replicate 192 0) (replicate 192 0) (replicate 192 0)
 
 -- Entries behind entries.
-rules-split : (hs ps ns : List ℕ) (a b : ℕ) → rulesAt hs ps ns 0 (a + b) ≡ rulesAt hs ps ns 0 a ++ rulesAt hs ps ns a b
+rules-split : (hs ps ns ads : List ℕ) (a b : ℕ) → rulesAt hs ps ns ads 0 (a + b) ≡ rulesAt hs ps ns ads 0 a ++ rulesAt hs ps ns ads a b
 unfolding rulesAt
-rules-split hs ps ns a b = ap (map f) (range-append 0 a b ∙ ap (λ i. range 0 a ++ range i b) (zero-add a)) ∙ map-append f (range 0 a) (range a b)
+rules-split hs ps ns ads a b = ap (map f) (range-append 0 a b ∙ ap (λ i. range 0 a ++ range i b) (zero-add a)) ∙ map-append f (range 0 a) (range a b)
   where
     f : ℕ → Rule
-    f i = ruleOf (getD hs i 0) (getD ps i 0) (getD ns i 0)
+    f i = ruleOf (getD hs i 0) (getD ps i 0) (getD ns i 0) (getD ads i 0)
 
-bodies-rules : (hs ps ns : List ℕ) (j k : ℕ) → bodiesAt ps ns j k ≡ map (λ r. r .body) (rulesAt hs ps ns j k)
+bodies-rules : (hs ps ns ads : List ℕ) (j k : ℕ) → bodiesAt ps ns ads j k ≡ map (λ r. r .body) (rulesAt hs ps ns ads j k)
 unfolding bodiesAt rulesAt ruleOf
-bodies-rules hs ps ns j k = sym (map-map (λ (r : Rule). r .body) (λ i. ruleOf (getD hs i 0) (getD ps i 0) (getD ns i 0)) (range j k))
+bodies-rules hs ps ns ads j k = sym (map-map (λ (r : Rule). r .body) (λ i. ruleOf (getD hs i 0) (getD ps i 0) (getD ns i 0) (getD ads i 0)) (range j k))
 
-module _ (t : Records) where
-  abbrev pub none : Entries
-  none = record { k = 0; heads = replicate 128 0; pos = replicate 128 0; neg = replicate 128 0 }
+module _ (n : ℕ) (t : Records) (E : Expandable n t) where
+  all-few : length (rulesOf n (recordsIn t)) + length (constraintsFrom (recordsIn t)) ≤ 192
+  all-few = let a = entries-few n (recordsIn t) in let m = length-records t in let c = E .few in let l = E .low in omega arith
 
-  room-none : t .count ≤ 128 → Room (entries 0 (replicate 128 0) (replicate 128 0) (replicate 128 0)) (ofKind 0 (recordsIn t))
-  room-none l =
-      let n = kinds-few (recordsIn t) in
-      let m = length-records t in
-      let long = length-replicate {A = ℕ} 128 0 in
-      record { heads = long; pos = long; neg = long; room = omega arith }
+  pub ruling-start : Ruling n t 0 n nothing
+  unfolding entriesIn rulesAt range
+  ruling-start =
+      let long = length-replicate {A = ℕ} 192 0 in
+      record { number = numbering-start n t; long = record { heads = long; pos = long; neg = long; added = long; room = omega arith }; list = ap (rulesOf n) (records-all t) }
 
-  module _ (e : Entries) (E : Appended none (ofKind 0 (recordsIn t)) e) where
-    room-rules : t .count ≤ 128 → Room e (ofKind 1 (recordsIn t))
-    room-rules l =
-        let n = kinds-few (recordsIn t) in
-        let m = length-records t in
-        let k = E .size in
-        record { heads = E .heads; pos = E .pos; neg = E .neg; room = omega arith }
+  module _ (j fresh : ℕ) (e : Entries) (W : Ruling n t j fresh e) where
+    module _ (l : j < t .count) (r : SheetRecord) (R : RecordAt (t .kinds) (t .heads) (t .pos) (t .neg) j r) where
+      ruling-split : rulesOf fresh (recordsFrom t j) ≡ recordRules fresh (recordIn r) ++ rulesOf (nextFresh fresh (recordAtIndex t j)) (recordsFrom t (j + 1))
+      unfolding rulesOf
+      ruling-split = ap (rulesOf fresh) (records-left t j l) ∙ rw (record-is t j r R) refl
 
-    module _ (a : Entries) (A : Appended e (ofKind 1 (recordsIn t)) a) where
-      fewer : e .k ≤ a .k
-      fewer = let k = A .size in omega arith
+      pub ruling-room : Room (length (recordRules fresh (recordIn r))) e
+      ruling-room =
+          let L = W .long in
+          let few = all-few in
+          let whole = ap length (W .list) in
+          let parts = length-append (entriesIn e) (rulesOf fresh (recordsFrom t j)) in
+          let left = ap length ruling-split ∙ length-append (recordRules fresh (recordIn r)) _ in
+          record { heads = L .heads; pos = L .pos; neg = L .neg; added = L .added; room = omega (arith, length-entries e) }
 
-      both : rulesAt (a .heads) (a .pos) (a .neg) 0 (e .k) ++ rulesAt (a .heads) (a .pos) (a .neg) (e .k) (a .k - e .k) ≡ entriesIn e ++ ofKind 1 (recordsIn t)
-      unfolding entriesIn
-      both =
-          let k = A .size in
-          sym (rules-split (a .heads) (a .pos) (a .neg) (e .k) (a .k - e .k)) ∙ (ap (rulesAt (a .heads) (a .pos) (a .neg) 0) (let s : e .k + (a .k - e .k) ≡ a .k = omega arith in s) ∙ A .is)
+      pub ruling-fresh : FreshFor r fresh
+      ruling-fresh = fresh-for n t E j fresh (W .number) l r R
 
-      length-entries : length (entriesIn e) ≡ e .k
-      unfolding entriesIn
-      length-entries = length-rules (e .heads) (e .pos) (e .neg) 0 (e .k)
-
-      first : rulesAt (a .heads) (a .pos) (a .neg) 0 (e .k) ≡ ofKind 0 (recordsIn t)
-      unfolding entriesIn rulesAt range
-      first =
-          sym (take-at (rulesAt (a .heads) (a .pos) (a .neg) 0 (e .k)) _ (e .k) (length-rules (a .heads) (a .pos) (a .neg) 0 (e .k)))
-          ∙ (ap (take (e .k)) both ∙ (take-at (entriesIn e) _ (e .k) length-entries ∙ E .is))
-
-      second : rulesAt (a .heads) (a .pos) (a .neg) (e .k) (a .k - e .k) ≡ ofKind 1 (recordsIn t)
-      second =
-          sym (drop-at (rulesAt (a .heads) (a .pos) (a .neg) 0 (e .k)) _ (e .k) (length-rules (a .heads) (a .pos) (a .neg) 0 (e .k)))
-          ∙ (ap (drop (e .k)) both ∙ drop-at (entriesIn e) _ (e .k) length-entries)
-
-      same-constraints : map (λ r. r .body) (ofKind 1 (recordsIn t)) ≡ constraintsOf (recordsIn t)
-      unfolding ofKind constraintsOf
-      same-constraints = map-map (λ (r : Rule). r .body) (λ (r : Record). record { head = r .head; body = r .body }) (filter (λ r. eqb (r .kind) 1) (recordsIn t))
-
-      same-rules : ofKind 0 (recordsIn t) ≡ rulesOf (recordsIn t)
-      unfolding ofKind rulesOf
-      same-rules = refl
-
-      translated : (n : ℕ) → t .count ≤ 128
-          → Translated n (recordsIn t) (record { atoms = n; rules = e .k; constraints = a .k - e .k; heads = a .heads; pos = a .pos; neg = a .neg })
-      unfolding programIn programOf
-      translated n l =
-          let f = kinds-few (recordsIn t) in
-          let m = length-records t in
-          let k = A .size in
-          let i = E .size in
+      pub ruling-turn : (k next : ℕ) → k ≡ r .kind → next ≡ cond (eqb k 2) (suc fresh) fresh → (m : Entries) → Appended e (recordRules fresh (recordIn r)) m → Ruling n t (j + 1) next m
+      unfolding nextFresh recordOf
+      ruling-turn k next K X m A =
+          let same : next ≡ nextFresh fresh (recordAtIndex t j) = X ∙ ap (λ k. cond (eqb k 2) (suc fresh) fresh) (K ∙ R .kind) in
           record {
-            atoms = refl;
-            few = omega arith;
-            is = ap₂ (λ rs cs. record { atoms = n; rules = rs; constraints = cs }) (first ∙ same-rules)
-                (bodies-rules (a .heads) (a .pos) (a .neg) (e .k) (a .k - e .k) ∙ (ap (map (λ r. r .body)) second ∙ same-constraints));
+            number = numbering-turn n t j fresh next (W .number) l same;
+            long = A .long;
+            list = rw same (ap (λ x. x ++ rulesOf (nextFresh fresh (recordAtIndex t j)) (recordsFrom t (j + 1))) (A .is)
+                ∙ (append-assoc (entriesIn e) (recordRules fresh (recordIn r)) _ ∙ (ap (λ x. entriesIn e ++ x) (sym ruling-split) ∙ W .list)));
           }
 
--- The two loops: the rules, and behind them the constraints.
-pub record First (t : Records) (j : ℕ) (hs ps ns : List ℕ) (k : ℕ) : Type 0 where
-  pub rest : Appending (none t) t 0 j hs ps ns k
-
-pub record Second (t : Records) (rules : ℕ) (hs ps ns : List ℕ) (j : ℕ) (hs′ ps′ ns′ : List ℕ) (k : ℕ) : Type 0 where
-  pub done : Appended (none t) (ofKind 0 (recordsIn t)) (entries rules hs ps ns)
-  pub rest : Appending (entries rules hs ps ns) t 1 j hs′ ps′ ns′ k
-
-module _ (t : Records) (few : t .count ≤ 128) where
-  pub first-start : First t 0 (replicate 128 0) (replicate 128 0) (replicate 128 0) 0
-  first-start = record { rest = appending-start (none t) t 0 (room-none t few) }
-
-  module _ (j k : ℕ) (hs ps ns : List ℕ) (F : First t j hs ps ns k) where
-    module _ (l : j < t .count) (w : ℕ) (b : Bool) (W : w ≡ getD (t .kinds) j 0) (B : b ≡ eqb w 0) where
-      pub first-long : Long k b hs ps ns
-      first-long = appending-long (none t) t 0 j k hs ps ns (F .rest) l w b W B (room-none t few)
-
-      pub first-turn : (hs′ ps′ ns′ : List ℕ) (r : ℕ) → StoredIf k b (getD (t .heads) j 0) (getD (t .pos) j 0) (getD (t .neg) j 0) hs ps ns hs′ ps′ ns′ r → First t (j + 1) hs′ ps′ ns′ r
-      first-turn hs′ ps′ ns′ r S = record { rest = appending-turn (none t) t 0 j k hs ps ns (F .rest) l w b W B hs′ ps′ ns′ r (room-none t few) S }
-
-    pub second-start : t .count ≤ j → Second t k hs ps ns 0 hs ps ns k
-    second-start l =
-        let E = appending-end (none t) t 0 j k hs ps ns (F .rest) l in
-        record { done = E; rest = appending-start (entries k hs ps ns) t 1 (room-rules t (entries k hs ps ns) E few) }
-
-  module _ (rules : ℕ) (hs ps ns : List ℕ) (j k : ℕ) (hs′ ps′ ns′ : List ℕ) (S : Second t rules hs ps ns j hs′ ps′ ns′ k) where
-    space : Room (entries rules hs ps ns) (ofKind 1 (recordsIn t))
-    space = room-rules t (entries rules hs ps ns) (S .done) few
-
-    module _ (l : j < t .count) (w : ℕ) (b : Bool) (W : w ≡ getD (t .kinds) j 0) (B : b ≡ eqb w 1) where
-      pub second-long : Long k b hs′ ps′ ns′
-      second-long = appending-long (entries rules hs ps ns) t 1 j k hs′ ps′ ns′ (S .rest) l w b W B space
-
-      pub second-turn : (hs″ ps″ ns″ : List ℕ) (r : ℕ) → StoredIf k b (getD (t .heads) j 0) (getD (t .pos) j 0) (getD (t .neg) j 0) hs′ ps′ ns′ hs″ ps″ ns″ r
-          → Second t rules hs ps ns (j + 1) hs″ ps″ ns″ r
-      second-turn hs″ ps″ ns″ r I =
-          record { done = S .done; rest = appending-turn (entries rules hs ps ns) t 1 j k hs′ ps′ ns′ (S .rest) l w b W B hs″ ps″ ns″ r space I }
+      pub ruling-small : fresh < 256
+      ruling-small = let s = W .number .same in let l = E .low in omega arith
 
     module _ (l : t .count ≤ j) where
-      both-kinds : Appended (entries rules hs ps ns) (ofKind 1 (recordsIn t)) (entries k hs′ ps′ ns′)
-      both-kinds = appending-end (entries rules hs ps ns) t 1 j k hs′ ps′ ns′ (S .rest) l
+      all-rules : entriesIn e ≡ rulesOf n (recordsIn t)
+      unfolding rulesOf
+      all-rules = sym (append-nil (entriesIn e)) ∙ (ap (λ rs. entriesIn e ++ rulesOf fresh rs) (sym (records-over t j l)) ∙ W .list)
 
-      pub second-more : rules ≤ k
-      second-more = fewer t (entries rules hs ps ns) (S .done) (entries k hs′ ps′ ns′) both-kinds
+      pub constraining-start : Constraining n t (e .k) 0 e
+      constraining-start =
+          record { size = sym (length-entries e) ∙ ap length all-rules; long = W .long; list = ap (λ x. x ++ constraintsFrom (recordsFrom t 0)) all-rules ∙ ap (λ rs. rulesOf n (recordsIn t) ++ constraintsFrom rs) (records-all t) }
 
-      pub second-end : (n : ℕ) → Translated n (recordsIn t) (record { atoms = n; rules = rules; constraints = k - rules; heads = hs′; pos = ps′; neg = ns′ })
-      second-end n = translated t (entries rules hs ps ns) (S .done) (entries k hs′ ps′ ns′) both-kinds n few
+      pub all-atoms : fresh ≡ n + choices (recordsIn t)
+      all-atoms = numbering-end n t j fresh (W .number) l
+
+  module _ (rules i : ℕ) (e : Entries) (C : Constraining n t rules i e) where
+    module _ (l : i < t .count) (r : SheetRecord) (R : RecordAt (t .kinds) (t .heads) (t .pos) (t .neg) i r) where
+      constraining-split : constraintsFrom (recordsFrom t i) ≡ constraintOf (recordIn r) ++ constraintsFrom (recordsFrom t (i + 1))
+      constraining-split = ap constraintsFrom (records-left t i l) ∙ (constraints-left (recordAtIndex t i) (recordsFrom t (i + 1)) ∙ rw (record-is t i r R) refl)
+
+      pub constraining-room : Room (length (constraintOf (recordIn r))) e
+      constraining-room =
+          let L = C .long in
+          let few = all-few in
+          let whole = ap length (C .list) ∙ length-append (rulesOf n (recordsIn t)) (constraintsFrom (recordsIn t)) in
+          let parts = length-append (entriesIn e) (constraintsFrom (recordsFrom t i)) in
+          let left = ap length constraining-split ∙ length-append (constraintOf (recordIn r)) _ in
+          record { heads = L .heads; pos = L .pos; neg = L .neg; added = L .added; room = omega (arith, length-entries e) }
+
+      pub constraining-turn : (m : Entries) → Appended e (constraintOf (recordIn r)) m → Constraining n t rules (i + 1) m
+      constraining-turn m A =
+          record {
+            size = C .size;
+            long = A .long;
+            list = ap (λ x. x ++ constraintsFrom (recordsFrom t (i + 1))) (A .is)
+                ∙ (append-assoc (entriesIn e) (constraintOf (recordIn r)) _ ∙ (ap (λ x. entriesIn e ++ x) (sym constraining-split) ∙ C .list));
+          }
+
+    module _ (l : t .count ≤ i) where
+      all-entries : entriesIn e ≡ rulesOf n (recordsIn t) ++ constraintsFrom (recordsIn t)
+      unfolding constraintsFrom filter
+      all-entries = sym (append-nil (entriesIn e)) ∙ (ap (λ rs. entriesIn e ++ constraintsFrom rs) (sym (records-over t i l)) ∙ C .list)
+
+      size-all : e .k ≡ rules + length (constraintsFrom (recordsIn t))
+      size-all = let s = C .size in sym (length-entries e) ∙ (ap length all-entries ∙ (length-append (rulesOf n (recordsIn t)) (constraintsFrom (recordsIn t)) ∙ ap (λ k. k + length (constraintsFrom (recordsIn t))) (sym s)))
+
+      pub constraints-behind : rules ≤ e .k
+      constraints-behind = let s = size-all in omega arith
+
+      parts : rulesAt (e .heads) (e .pos) (e .neg) (e .added) 0 rules ++ rulesAt (e .heads) (e .pos) (e .neg) (e .added) rules (e .k - rules) ≡ rulesOf n (recordsIn t) ++ constraintsFrom (recordsIn t)
+      unfolding entriesIn
+      parts =
+          let l = constraints-behind in
+          sym (rules-split (e .heads) (e .pos) (e .neg) (e .added) rules (e .k - rules))
+          ∙ (ap (rulesAt (e .heads) (e .pos) (e .neg) (e .added) 0) (let s : rules + (e .k - rules) ≡ e .k = omega arith in s) ∙ all-entries)
+
+      first : rulesAt (e .heads) (e .pos) (e .neg) (e .added) 0 rules ≡ rulesOf n (recordsIn t)
+      first =
+          sym (take-at (rulesAt (e .heads) (e .pos) (e .neg) (e .added) 0 rules) _ rules (length-rules (e .heads) (e .pos) (e .neg) (e .added) 0 rules)) ∙ (ap (take rules) parts ∙ take-at (rulesOf n (recordsIn t)) _ rules (sym (C .size)))
+
+      second : rulesAt (e .heads) (e .pos) (e .neg) (e .added) rules (e .k - rules) ≡ constraintsFrom (recordsIn t)
+      second =
+          sym (drop-at (rulesAt (e .heads) (e .pos) (e .neg) (e .added) 0 rules) _ rules (length-rules (e .heads) (e .pos) (e .neg) (e .added) 0 rules)) ∙ (ap (drop rules) parts ∙ drop-at (rulesOf n (recordsIn t)) _ rules (sym (C .size)))
+
+      same-constraints : map (λ r. r .body) (constraintsFrom (recordsIn t)) ≡ constraintsOf (recordsIn t)
+      unfolding constraintsFrom constraintsOf
+      same-constraints = map-map (λ (r : Rule). r .body) ruleIn (filter (λ r. eqb (r .kind) 1) (recordsIn t))
+
+      pub translated : (fresh : ℕ) → fresh ≡ n + choices (recordsIn t)
+          → Translated n (recordsIn t) (record { atoms = fresh; rules = rules; constraints = e .k - rules; heads = e .heads; pos = e .pos; neg = e .neg; added = e .added })
+      unfolding programIn programOf
+      translated fresh F =
+          let few = all-few in
+          let s = size-all in
+          let k = C .size in
+          record {
+            atoms = F;
+            few = omega arith;
+            is = rw F (ap₂ (λ rs cs. record { atoms = n + choices (recordsIn t); rules = rs; constraints = cs }) first
+                (bodies-rules (e .heads) (e .pos) (e .neg) (e .added) rules (e .k - rules) ∙ (ap (map (λ r. r .body)) second ∙ same-constraints)));
+          }

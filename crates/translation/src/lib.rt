@@ -1,35 +1,239 @@
-// The program of a sheet, from the table of its records: rules and constraints, in sheet order.
+// What the records of a sheet stand for: the number of choice rules, the edges of the program's graph, and the program itself.
+use bits::has;
+use bits::union;
 use bits::wide;
 use program::ProgramTable;
-ghost use Prim.Native.Nat.{_≤_};
-ghost use Rattle.reader.specs.inner.Tabled.{recordsAt};
-ghost use Rattle.translation.specs.inner.Translated.{Long, StoredIf, Translated};
+ghost use mathlib.Core.Bool.{cond};
+ghost use mathlib.Core.Path.{_≡_};
+ghost use mathlib.Core.List.{[], _∷_};
+ghost use Prim.Native.Nat.{suc, _≤_, _<_};
+ghost use lib.Dec.{eqb};
+ghost use lib.ListN.{length};
+ghost use Rattle.program.specs.inner.Held.{ruleOf};
+ghost use Rattle.sheet.specs.Sheet.{recordRules};
+ghost use Rattle.translation.specs.inner.Records.{table, recordIn, recordsIn, RecordAt, ChoicesIn, Expandable, FreshFor};
+ghost use Rattle.translation.specs.inner.Linked.{Linked, RecordLinked, EdgesIn};
+ghost use Rattle.translation.specs.inner.Translated.{entries, Room, Appended, AddedTo, constraintOf, Translated};
 
-// Stores an entry at k, where b holds; the index that comes next.
-fn store_if(
-    heads: &mut [u8; 128],
-    pos: &mut [u64; 128],
-    neg: &mut [u64; 128],
-    k: usize,
-    b: bool,
-    head: u8,
-    p: u64,
-    q: u64,
-) -> usize
-    requires { ⌜ Long k b (now heads) (now pos) (now neg) ⌝ }
-    ensures { λ r. ⌜ StoredIf k b head p q (now (heads .entry)) (now (pos .entry)) (now (neg .entry))
-        (now (heads .exit)) (now (pos .exit)) (now (neg .exit)) r ⌝ }
+// The number that comes behind a record of this kind, where each choice rule takes one.
+fn next_fresh(kind: usize, fresh: usize) -> usize
+    requires { ⌜ fresh < 256 ⌝ }
+    ensures { λ r. ⌜ r ≡ cond (eqb kind 2) (suc fresh) fresh ⌝ }
 {
-    if b {
-        heads[k] = head;
-        pos[k] = p;
-        neg[k] = q;
-        return k + 1;
+    if kind == 2 {
+        return fresh + 1;
+    }
+    fresh
+}
+
+// The number of choice rules among the first m records.
+pub fn choices_in(kinds: &[u8; 128], m: usize) -> usize
+    requires { ⌜ m ≤ 128 ⌝ }
+    ensures { λ r. ⌜ ChoicesIn (now (kinds .entry)) m r ⌝ }
+{
+    let mut number = 0;
+    let mut j = 0;
+    while j < m {
+        number = next_fresh(wide(kinds[j]), number);
+        j += 1;
+    }
+    number
+}
+
+// A record.
+pub struct SheetRecord {
+    pub kind: u8,
+    pub head: u8,
+    pub pos: u64,
+    pub neg: u64,
+}
+
+// The record at j.
+fn record_at<'a>(
+    kinds: &'a [u8; 128],
+    heads: &'a [u8; 128],
+    pos: &'a [u64; 128],
+    neg: &'a [u64; 128],
+    j: usize,
+) -> SheetRecord
+    requires { ⌜ j < 128 ⌝ }
+    ensures { λ r. ⌜ RecordAt (now (kinds .entry)) (now (heads .entry)) (now (pos .entry)) (now (neg .entry)) j r ⌝ }
+{
+    SheetRecord {
+        kind: kinds[j],
+        head: heads[j],
+        pos: pos[j],
+        neg: neg[j],
+    }
+}
+
+// The atoms of a set get edges to h.
+fn link(rows: &mut [u64; 64], h: usize, pos: u64)
+    requires { ⌜ (length (now rows) ≡ 64) × (h < 64) ⌝ }
+    ensures { λ r. ⌜ Linked h pos (now (rows .entry)) (now (rows .exit)) ⌝ }
+{
+    rows[h] = union(rows[h], pos);
+}
+
+// The edges of a record's rules, each in the row of the atom that it leads to; the fresh atom that comes next.
+fn link_record(rows: &mut [u64; 64], r: SheetRecord, fresh: usize) -> usize
+    requires { ⌜ (length (now rows) ≡ 64) × FreshFor r fresh ⌝ }
+    ensures { λ next. ⌜ RecordLinked r fresh (now (rows .entry)) (now (rows .exit)) next ⌝ }
+{
+    let kind = wide(r.kind);
+    let head = wide(r.head);
+    if kind == 0 {
+        link(rows, head, r.pos);
+        return fresh;
+    }
+    if kind == 2 {
+        link(rows, head, r.pos);
+        link(rows, fresh, r.pos);
+        return fresh + 1;
+    }
+    fresh
+}
+
+// The edges of a program, in rows.
+pub struct Edges {
+    pub rows: [u64; 64],
+}
+
+// The edges of the program of the first m records over n written atoms.
+pub fn edges_of<'a>(
+    n: usize,
+    m: usize,
+    kinds: &'a [u8; 128],
+    heads: &'a [u8; 128],
+    pos: &'a [u64; 128],
+    neg: &'a [u64; 128],
+) -> Edges
+    requires { ⌜ Expandable n (table m (now kinds) (now heads) (now pos) (now neg)) ⌝ }
+    ensures { λ r. ⌜ EdgesIn n (table m (now (kinds .entry)) (now (heads .entry)) (now (pos .entry)) (now (neg .entry))) (r .rows) ⌝ }
+{
+    let mut rows = [0u64; 64];
+    let mut fresh = n;
+    let mut j = 0;
+    while j < m {
+        let r = record_at(kinds, heads, pos, neg, j);
+        fresh = link_record(&mut rows, r, fresh);
+        j += 1;
+    }
+    Edges { rows }
+}
+
+// What is entered for an atom that is added to negative ones: nothing, where it is among them already.
+fn added_atom(neg: u64, a: usize) -> u8
+    requires { ⌜ a < 64 ⌝ }
+    ensures { λ r. ⌜ AddedTo neg a r ⌝ }
+{
+    if has(neg, a) {
+        return 0;
+    }
+    ((a + 1) % 256) as u8
+}
+
+// An entry of a program's table.
+pub struct TableEntry {
+    pub head: u8,
+    pub pos: u64,
+    pub neg: u64,
+    pub added: u8,
+}
+
+// Stores an entry at k; the index that comes next.
+fn store(
+    heads: &mut [u8; 192],
+    pos: &mut [u64; 192],
+    neg: &mut [u64; 192],
+    added: &mut [u8; 192],
+    k: usize,
+    e: TableEntry,
+) -> usize
+    requires { ⌜ Room 1 (entries k (now heads) (now pos) (now neg) (now added)) ⌝ }
+    ensures { λ r. ⌜ Appended (entries k (now (heads .entry)) (now (pos .entry)) (now (neg .entry)) (now (added .entry)))
+        (ruleOf (e .head) (e .pos) (e .neg) (e .added) ∷ [])
+        (entries r (now (heads .exit)) (now (pos .exit)) (now (neg .exit)) (now (added .exit))) ⌝ }
+{
+    heads[k] = e.head;
+    pos[k] = e.pos;
+    neg[k] = e.neg;
+    added[k] = e.added;
+    k + 1
+}
+
+// Stores the rules of a record from k on; the index that comes next.
+fn store_rules(
+    heads: &mut [u8; 192],
+    pos: &mut [u64; 192],
+    neg: &mut [u64; 192],
+    added: &mut [u8; 192],
+    k: usize,
+    r: SheetRecord,
+    fresh: usize,
+) -> usize
+    requires { ⌜ Room (length (recordRules fresh (recordIn r))) (entries k (now heads) (now pos) (now neg) (now added)) × FreshFor r fresh ⌝ }
+    ensures { λ next. ⌜ Appended (entries k (now (heads .entry)) (now (pos .entry)) (now (neg .entry)) (now (added .entry)))
+        (recordRules fresh (recordIn r))
+        (entries next (now (heads .exit)) (now (pos .exit)) (now (neg .exit)) (now (added .exit))) ⌝ }
+{
+    let kind = wide(r.kind);
+    if kind == 0 {
+        let rule = TableEntry {
+            head: r.head,
+            pos: r.pos,
+            neg: r.neg,
+            added: 0,
+        };
+        return store(heads, pos, neg, added, k, rule);
+    }
+    if kind == 2 {
+        let head = wide(r.head);
+        let chosen = TableEntry {
+            head: r.head,
+            pos: r.pos,
+            neg: r.neg,
+            added: added_atom(r.neg, fresh),
+        };
+        let second = store(heads, pos, neg, added, k, chosen);
+        let other = TableEntry {
+            head: (fresh % 256) as u8,
+            pos: r.pos,
+            neg: r.neg,
+            added: added_atom(r.neg, head),
+        };
+        return store(heads, pos, neg, added, second, other);
     }
     k
 }
 
-// The program of n atoms of the first m records: those of kind 0 are its rules, those of kind 1 its constraints.
+// Stores a record at k, where it is a constraint; the index that comes next.
+fn store_constraint(
+    heads: &mut [u8; 192],
+    pos: &mut [u64; 192],
+    neg: &mut [u64; 192],
+    added: &mut [u8; 192],
+    k: usize,
+    r: SheetRecord,
+) -> usize
+    requires { ⌜ Room (length (constraintOf (recordIn r))) (entries k (now heads) (now pos) (now neg) (now added)) ⌝ }
+    ensures { λ next. ⌜ Appended (entries k (now (heads .entry)) (now (pos .entry)) (now (neg .entry)) (now (added .entry)))
+        (constraintOf (recordIn r))
+        (entries next (now (heads .exit)) (now (pos .exit)) (now (neg .exit)) (now (added .exit))) ⌝ }
+{
+    if wide(r.kind) == 1 {
+        let body = TableEntry {
+            head: r.head,
+            pos: r.pos,
+            neg: r.neg,
+            added: 0,
+        };
+        return store(heads, pos, neg, added, k, body);
+    }
+    k
+}
+
+// The program of the first m records over n written atoms: the rules of each record in its place, and behind them the constraints.
 pub fn program_of<'a>(
     n: usize,
     m: usize,
@@ -38,51 +242,37 @@ pub fn program_of<'a>(
     record_pos: &'a [u64; 128],
     record_neg: &'a [u64; 128],
 ) -> ProgramTable
-    requires { ⌜ m ≤ 128 ⌝ }
+    requires { ⌜ Expandable n (table m (now kinds) (now record_heads) (now record_pos) (now record_neg)) ⌝ }
     ensures { λ r. ⌜ Translated n
-        (recordsAt (now (kinds .entry)) (now (record_heads .entry)) (now (record_pos .entry)) (now (record_neg .entry)) 0 m) r ⌝ }
+        (recordsIn (table m (now (kinds .entry)) (now (record_heads .entry)) (now (record_pos .entry)) (now (record_neg .entry)))) r ⌝ }
 {
-    let mut heads = [0u8; 128];
-    let mut pos = [0u64; 128];
-    let mut neg = [0u64; 128];
+    let mut heads = [0u8; 192];
+    let mut pos = [0u64; 192];
+    let mut neg = [0u64; 192];
+    let mut added = [0u8; 192];
+    let mut fresh = n;
     let mut rules = 0;
     let mut j = 0;
     while j < m {
-        let b = wide(kinds[j]) == 0;
-        rules = store_if(
-            &mut heads,
-            &mut pos,
-            &mut neg,
-            rules,
-            b,
-            record_heads[j],
-            record_pos[j],
-            record_neg[j],
-        );
+        let r = record_at(kinds, record_heads, record_pos, record_neg, j);
+        rules = store_rules(&mut heads, &mut pos, &mut neg, &mut added, rules, r, fresh);
+        fresh = next_fresh(wide(r.kind), fresh);
         j += 1;
     }
     let mut all = rules;
     let mut i = 0;
     while i < m {
-        let b = wide(kinds[i]) == 1;
-        all = store_if(
-            &mut heads,
-            &mut pos,
-            &mut neg,
-            all,
-            b,
-            record_heads[i],
-            record_pos[i],
-            record_neg[i],
-        );
+        let r = record_at(kinds, record_heads, record_pos, record_neg, i);
+        all = store_constraint(&mut heads, &mut pos, &mut neg, &mut added, all, r);
         i += 1;
     }
     ProgramTable {
-        atoms: n,
+        atoms: fresh,
         rules,
         constraints: all - rules,
         heads,
         pos,
         neg,
+        added,
     }
 }

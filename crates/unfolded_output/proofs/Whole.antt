@@ -58,22 +58,22 @@ module _ (t : ProgramTable) (names sets q : List ℕ) (R : Ready t names sets q)
       module _ (c : EntryCopy) (M : Made q i names sets fresh c) (k : KeptRules) (K : Kept (t .heads) (t .pos) (t .rules) (c .atom) (c .component) copied k)
           (lasts vars : List ℕ) (F : Values last lasts) (O : Overlaid (c .component) latest lasts vars) where
         abbrev copy : Copy
-        copy = record { atom = c .atom; var = c .var; kept = bodiesBy (t .pos) (t .neg) vars (k .entries) (k .rules) }
+        copy = record { atom = c .atom; var = c .var; kept = bodiesBy (t .pos) (t .neg) (t .added) vars (k .entries) (k .rules) }
 
         abbrev here : List ℕ
-        here = keptWords (t .pos) (t .neg) vars (c .var) k
+        here = keptWords (t .pos) (t .neg) (t .added) vars (c .var) k
 
         step : (cs : List Copy) → flatMap copyWords (copy ∷ cs) ≡ here ++ flatMap copyWords cs
         unfolding flatMap copyWords keptWords listedWords bodiesWords
         step cs =
-            ap (λ n. (c .var ∷ n ∷ listedWords (t .pos) (t .neg) vars (k .entries) (k .rules)) ++ flatMap copyWords cs) (bodies-number (t .pos) (t .neg) vars (k .entries) (k .rules))
+            ap (λ n. (c .var ∷ n ∷ listedWords (t .pos) (t .neg) (t .added) vars (k .entries) (k .rules)) ++ flatMap copyWords cs) (bodies-number (t .pos) (t .neg) (t .added) vars (k .entries) (k .rules))
 
-        pub copies-room : at + length (copiesWords (unfoldedIn t q)) ≤ length old → next + length (keptWords (t .pos) (t .neg) vars (c .var) k) ≤ length cur
+        pub copies-room : at + length (copiesWords (unfoldedIn t q)) ≤ length old → next + length (keptWords (t .pos) (t .neg) (t .added) vars (c .var) k) ≤ length cur
         copies-room h =
             let S = emitting-here t names sets q R i copied latest fresh Rest E within c M k K lasts vars F O in
             left-room old at (total t q old at) cur here _ _ next (S .holds .rest) (step (S .copies)) h
 
-        pub copies-turn : (marked : ℕ) → With copied (c .atom) marked → (new : List ℕ) (behind : ℕ) → Wrote cur next (keptWords (t .pos) (t .neg) vars (c .var) k) new behind
+        pub copies-turn : (marked : ℕ) → With copied (c .atom) marked → (new : List ℕ) (behind : ℕ) → Wrote cur next (keptWords (t .pos) (t .neg) (t .added) vars (c .var) k) new behind
             → CopiesWritten t q old at (i + 1) marked (set latest (c .atom) (c .var)) (c .fresh) new behind
         copies-turn marked W new behind U =
             emitting-turn t names sets q R i copied latest fresh Rest E within c M k K lasts vars F O marked (WordsLeft old at (total t q old at) new behind) W
@@ -81,12 +81,12 @@ module _ (t : ProgramTable) (names sets q : List ℕ) (R : Ready t names sets q)
 
 -- The whole.
 module _ (t : ProgramTable) (names sets q : List ℕ) (R : Ready t names sets q) where
-  constraints-written : (lasts : List ℕ) → Values last lasts → entriesWords (t .pos) (t .neg) lasts (t .rules) (t .rules + t .constraints) ≡ flatMap bodyWords (unfoldedIn t q .constraints)
+  constraints-written : (lasts : List ℕ) → Values last lasts → entriesWords (t .pos) (t .neg) (t .added) lasts (t .rules) (t .rules + t .constraints) ≡ flatMap bodyWords (unfoldedIn t q .constraints)
   unfolding entriesWords bodiesWords
   constraints-written lasts F = ap (flatMap bodyWords) (constraints-by-last t names sets q R lasts F)
 
   whole-size : (lasts : List ℕ) → Values last lasts
-      → length (words (unfoldedIn t q)) ≡ 1 + length (copiesWords (unfoldedIn t q)) + 1 + length (entriesWords (t .pos) (t .neg) lasts (t .rules) (t .rules + t .constraints))
+      → length (words (unfoldedIn t q)) ≡ 1 + length (copiesWords (unfoldedIn t q)) + 1 + length (entriesWords (t .pos) (t .neg) (t .added) lasts (t .rules) (t .rules + t .constraints))
   unfolding words copiesWords
   whole-size lasts L =
       let e = length-append (flatMap copyWords (unfoldedIn t q .copies)) (length (unfoldedIn t q .constraints) ∷ flatMap bodyWords (unfoldedIn t q .constraints)) in
@@ -112,7 +112,7 @@ module _ (t : ProgramTable) (names sets q : List ℕ) (R : Ready t names sets q)
             omega arith
 
         module _ (o₃ : List ℕ) (next : ℕ) (W₃ : Wrote o₂ behind (t .constraints ∷ []) o₃ next) where
-          pub room-constraints : next + length (entriesWords (t .pos) (t .neg) lasts (t .rules) (t .rules + t .constraints)) ≤ length o₃
+          pub room-constraints : next + length (entriesWords (t .pos) (t .neg) (t .added) lasts (t .rules) (t .rules + t .constraints)) ≤ length o₃
           room-constraints =
               let w = whole-size lasts L in
               let m₁ = W₁ .moved in
@@ -123,7 +123,7 @@ module _ (t : ProgramTable) (names sets q : List ℕ) (R : Ready t names sets q)
               let n₃ = wrote-length _ _ _ _ _ W₃ in
               omega arith
 
-          pub words-wrote : (new : List ℕ) (end : ℕ) → Wrote o₃ next (entriesWords (t .pos) (t .neg) lasts (t .rules) (t .rules + t .constraints)) new end → Wrote old 0 (words (unfoldedIn t q)) new end
+          pub words-wrote : (new : List ℕ) (end : ℕ) → Wrote o₃ next (entriesWords (t .pos) (t .neg) (t .added) lasts (t .rules) (t .rules + t .constraints)) new end → Wrote old 0 (words (unfoldedIn t q)) new end
           unfolding copiesWords words
           words-wrote new end W₄ =
               subst (λ ws. Wrote old 0 ws new end)

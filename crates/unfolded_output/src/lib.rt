@@ -9,6 +9,7 @@ use copies::entry_at;
 use copies::kept_rules;
 use copies::last_copies;
 use copies::last_places;
+use copies::negative_atoms;
 use copies::overlay;
 use copies::totals_of;
 use program::ProgramTable;
@@ -18,12 +19,13 @@ ghost use Prim.Native.Nat.{_+_, _≤_, _<_};
 ghost use lib.ListN.{length};
 ghost use Rattle.unfolding.specs.Unfolded.{last, words};
 ghost use Rattle.bits.specs.inner.Visited.{listed};
+ghost use Rattle.program.specs.inner.Held.{addedAtom};
 ghost use Rattle.writer.specs.inner.Wrote.{Wrote};
 ghost use Rattle.copies.specs.inner.Tables.{Values};
 ghost use Rattle.copies.specs.inner.Bodies.{bodyAtoms};
 ghost use Rattle.copies.specs.inner.Kept.{Inside};
 ghost use Rattle.copies.specs.inner.Ready.{Ready, unfoldedIn};
-ghost use Rattle.unfolded_output.specs.inner.Words.{setBodyWords, listedWords, entriesWords, keptWords, copiesWords, SetWrote};
+ghost use Rattle.unfolded_output.specs.inner.Words.{setBodyWords, listedWords, entriesWords, keptWords, copiesWords, SetWrote, AddedWrote};
 
 // The variables of a set's atoms.
 fn put_set(out: &mut [u32], at: usize, x: u64, vars: &[u32; 64]) -> usize
@@ -39,45 +41,59 @@ fn put_set(out: &mut [u32], at: usize, x: u64, vars: &[u32; 64]) -> usize
     next
 }
 
-// The body of two sets: the numbers of positive and of negative atoms, and their variables.
+// The last copy of an added atom a is the variable a + 1, which stands for the atom in the table.
+fn put_added(out: &mut [u32], at: usize, added: u8) -> usize
+    requires { ⌜ at + length (addedAtom added) ≤ length (now out) ⌝ }
+    ensures { λ r. ⌜ AddedWrote (now (out .entry)) at added (now (out .exit)) r ⌝ }
+{
+    if added == 0 {
+        return at;
+    }
+    put_word(out, at, added as u32)
+}
+
+// The body of two sets and an added atom: the numbers of positive and of negative atoms, and their variables.
 fn put_body(
     out: &mut [u32],
     at: usize,
     pos: u64,
     neg: u64,
+    added: u8,
     vars: &[u32; 64],
     lasts: &[u32; 64],
 ) -> usize
-    requires { ⌜ Values last (now lasts) × (at + 2 + bodyAtoms pos neg ≤ length (now out)) ⌝ }
-    ensures { λ r. ⌜ Wrote (now (out .entry)) at (setBodyWords (now (vars .entry)) pos neg) (now (out .exit)) r ⌝ }
+    requires { ⌜ Values last (now lasts) × (at + 2 + bodyAtoms pos neg added ≤ length (now out)) ⌝ }
+    ensures { λ r. ⌜ Wrote (now (out .entry)) at (setBodyWords (now (vars .entry)) pos neg added) (now (out .exit)) r ⌝ }
 {
     let second = put_word(out, at, size(pos));
-    let first = put_word(out, second, size(neg));
+    let first = put_word(out, second, negative_atoms(neg, added));
     let middle = put_set(out, first, pos, vars);
-    put_set(out, middle, neg, lasts)
+    let end = put_set(out, middle, neg, lasts);
+    put_added(out, end, added)
 }
 
 // The bodies of the first k entries that are listed.
 fn put_listed<'a>(
     out: &mut [u32],
     at: usize,
-    entries: &[u8; 128],
+    entries: &[u8; 192],
     k: usize,
-    pos: &'a [u64; 128],
-    neg: &'a [u64; 128],
+    pos: &'a [u64; 192],
+    neg: &'a [u64; 192],
+    added: &'a [u8; 192],
     vars: &[u32; 64],
     lasts: &[u32; 64],
 ) -> usize
     requires { ⌜ Values last (now lasts) × Inside (now entries) k
-        × (at + length (listedWords (now pos) (now neg) (now vars) (now entries) k) ≤ length (now out)) ⌝ }
+        × (at + length (listedWords (now pos) (now neg) (now added) (now vars) (now entries) k) ≤ length (now out)) ⌝ }
     ensures { λ r. ⌜ Wrote (now (out .entry)) at
-        (listedWords (now (pos .entry)) (now (neg .entry)) (now (vars .entry)) (now (entries .entry)) k) (now (out .exit)) r ⌝ }
+        (listedWords (now (pos .entry)) (now (neg .entry)) (now (added .entry)) (now (vars .entry)) (now (entries .entry)) k) (now (out .exit)) r ⌝ }
 {
     let mut next = at;
     let mut j = 0;
     while j < k {
         let i = entry_at(entries, k, j);
-        next = put_body(out, next, pos[i], neg[i], vars, lasts);
+        next = put_body(out, next, pos[i], neg[i], added[i], vars, lasts);
         j += 1;
     }
     next
@@ -89,20 +105,21 @@ fn put_copy<'a>(
     at: usize,
     var: u32,
     kept: KeptRules,
-    pos: &'a [u64; 128],
-    neg: &'a [u64; 128],
+    pos: &'a [u64; 192],
+    neg: &'a [u64; 192],
+    added: &'a [u8; 192],
     vars: &[u32; 64],
     lasts: &[u32; 64],
 ) -> usize
     requires { ⌜ Values last (now lasts) × Inside (kept .entries) (kept .rules)
-        × (at + length (keptWords (now pos) (now neg) (now vars) var kept) ≤ length (now out)) ⌝ }
+        × (at + length (keptWords (now pos) (now neg) (now added) (now vars) var kept) ≤ length (now out)) ⌝ }
     ensures { λ r. ⌜ Wrote (now (out .entry)) at
-        (keptWords (now (pos .entry)) (now (neg .entry)) (now (vars .entry)) var kept) (now (out .exit)) r ⌝ }
+        (keptWords (now (pos .entry)) (now (neg .entry)) (now (added .entry)) (now (vars .entry)) var kept) (now (out .exit)) r ⌝ }
 {
     let k = kept.rules;
     let second = put_word(out, at, var);
     let next = put_word(out, second, k as u32);
-    put_listed(out, next, &kept.entries, k, pos, neg, vars, lasts)
+    put_listed(out, next, &kept.entries, k, pos, neg, added, vars, lasts)
 }
 
 // All copies, in sequence order.
@@ -130,11 +147,12 @@ fn put_copies(
     while i < q.len() {
         let copy = copy_at(q, i, names, sets, &places, fresh);
         let a = copy.atom;
+        let var = copy.var;
         let kept = kept_rules(&t.heads, &t.pos, rules, a, copy.component, copied);
         let mut vars = *lasts;
         overlay(&mut vars, &latest, copy.component);
-        next = put_copy(out, next, copy.var, kept, &t.pos, &t.neg, &vars, lasts);
-        latest[a] = copy.var;
+        next = put_copy(out, next, var, kept, &t.pos, &t.neg, &t.added, &vars, lasts);
+        latest[a] = var;
         copied = with(copied, a);
         fresh = copy.fresh;
         i += 1;
@@ -148,19 +166,20 @@ fn put_entries<'a>(
     at: usize,
     from: usize,
     to: usize,
-    pos: &'a [u64; 128],
-    neg: &'a [u64; 128],
+    pos: &'a [u64; 192],
+    neg: &'a [u64; 192],
+    added: &'a [u8; 192],
     lasts: &[u32; 64],
 ) -> usize
-    requires { ⌜ Values last (now lasts) × (to ≤ 128)
-        × (at + length (entriesWords (now pos) (now neg) (now lasts) from to) ≤ length (now out)) ⌝ }
+    requires { ⌜ Values last (now lasts) × (to ≤ 192)
+        × (at + length (entriesWords (now pos) (now neg) (now added) (now lasts) from to) ≤ length (now out)) ⌝ }
     ensures { λ r. ⌜ Wrote (now (out .entry)) at
-        (entriesWords (now (pos .entry)) (now (neg .entry)) (now (lasts .entry)) from to) (now (out .exit)) r ⌝ }
+        (entriesWords (now (pos .entry)) (now (neg .entry)) (now (added .entry)) (now (lasts .entry)) from to) (now (out .exit)) r ⌝ }
 {
     let mut next = at;
     let mut j = from;
     while j < to {
-        next = put_body(out, next, pos[j], neg[j], lasts, lasts);
+        next = put_body(out, next, pos[j], neg[j], added[j], lasts, lasts);
         j += 1;
     }
     next
@@ -179,13 +198,14 @@ pub fn put_unfolded(
 {
     let from = t.rules;
     let constraints = t.constraints;
+    let to = from + constraints;
     let table = last_copies();
     let lasts = table.vars;
     let count = q.len() - 3;
     let first = put_word(out, 0, count as u32);
     let behind = put_copies(out, first, t, q, names, sets, &lasts);
     let next = put_word(out, behind, constraints as u32);
-    put_entries(out, next, from, from + constraints, &t.pos, &t.neg, &lasts)
+    put_entries(out, next, from, to, &t.pos, &t.neg, &t.added, &lasts)
 }
 
 // How many words that is: two for each copy, rule and constraint, one for each of their atoms, and the two numbers.

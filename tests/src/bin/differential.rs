@@ -3,12 +3,12 @@
 use rulesheet_tests::inputs::{any_sheet, damaged};
 use rulesheet_tests::library::Library;
 use rulesheet_tests::random::Random;
-use rulesheet_tests::reference::{answer, read_sheet, within, Graph};
+use rulesheet_tests::reference::{answer, read_sheet, within};
 use rulesheet_tests::report::{Statistics, Tally};
 use rulesheet_tests::sequences::any_sequence;
 use rulesheet_tests::service::{Answer, Argument, Call, Operation, Service};
 use rulesheet_tests::sheet::Sheet;
-use rulesheet_tests::vectors::format;
+use rulesheet_tests::vectors::{format, level};
 use std::env;
 
 const INPUTS: u64 = 20_000;
@@ -37,7 +37,7 @@ fn main() {
 /// A sheet and a sequence, valid or not.
 fn input(random: &mut Random) -> (Vec<u8>, Vec<u8>) {
     let sheet = any_sheet(random);
-    let sequence = any_sequence(random, &Graph::new(&sheet));
+    let sequence = any_sequence(random, &sheet);
     let bytes = if random.one_in(2) { sheet.bytes() } else { damaged(random, &sheet) };
     (bytes, sequence)
 }
@@ -93,7 +93,7 @@ impl Comparison {
         self.statistics.add(call.operation, expected);
         self.tally.add(&result);
         if let Err(instead) = result {
-            println!("{}\n    instead: {instead}", format(0, call, expected));
+            println!("{}\n    instead: {instead}", format(level(), level(), call, expected));
         }
     }
 

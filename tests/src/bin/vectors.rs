@@ -3,10 +3,8 @@
 use rulesheet_tests::reference::Reference;
 use rulesheet_tests::report::Tally;
 use rulesheet_tests::service::Service;
-use rulesheet_tests::vectors::{parse, Line};
+use rulesheet_tests::vectors::{level, parse, Line};
 use std::{env, fs, process};
-
-const LEVEL: &str = include_str!("../../level");
 
 fn main() {
     let mut arguments: Vec<String> = env::args().skip(1).collect();
@@ -18,7 +16,7 @@ fn main() {
         fail("usage: vectors [--reference] FILE...");
     }
     let service = if reference { Box::new(Reference) } else { library() };
-    let level = LEVEL.trim().parse().expect("tests/level holds a number");
+    let level = level();
     let mut tally = Tally::default();
     for name in &arguments {
         let text = fs::read_to_string(name).unwrap_or_else(|error| fail(&format!("{name}: {error}")));

@@ -1,5 +1,6 @@
 //! The positive dependency graph and its strongly connected components.
 
+use super::expanded;
 use crate::sheet::Sheet;
 use std::collections::BTreeSet;
 
@@ -11,7 +12,9 @@ pub struct Graph {
 }
 
 impl Graph {
+    /// The graph of all atoms, fresh ones included.
     pub fn new(sheet: &Sheet) -> Graph {
+        let sheet = expanded(sheet);
         let mut successors = vec![BTreeSet::new(); sheet.atoms.into()];
         for rule in sheet.rules() {
             for &positive in &rule.positives {

@@ -1,7 +1,7 @@
-//! The questions about the form of a sheet (1 to 6) and of a sequence (8).
+//! The questions about the form of a sheet (1 to 6, 13) and of a sequence (8).
 
 use super::Refusal;
-use crate::sheet::{Record, Sheet, CONSTRAINT, RULE};
+use crate::sheet::{Record, Sheet, CHOICE, CONSTRAINT, RULE};
 
 const MOST_ATOMS: u8 = 64;
 const MOST_RECORDS: u8 = 128;
@@ -16,7 +16,7 @@ fn ask(question: Refusal, yes: bool) -> Result<(), Refusal> {
     }
 }
 
-/// Questions 1 to 6.
+/// Questions 1 to 6, then 13.
 pub fn sheet(bytes: &[u8]) -> Result<Sheet, Refusal> {
     ask(1, bytes.len() >= 5 && bytes[0] == 1)?;
     ask(2, usize::from(u16::from_be_bytes([bytes[1], bytes[2]])) == bytes.len())?;
@@ -32,7 +32,9 @@ pub fn sheet(bytes: &[u8]) -> Result<Sheet, Refusal> {
         rest = after;
     }
     ask(4, rest.is_empty())?;
-    Ok(Sheet { atoms, records })
+    let sheet = Sheet { atoms, records };
+    ask(13, sheet.all_atoms() <= MOST_ATOMS.into())?;
+    Ok(sheet)
 }
 
 /// Question 4 of the record at the start of these bytes, and the bytes after it.
@@ -52,7 +54,7 @@ fn frame(bytes: &[u8]) -> Result<(Record, &[u8]), Refusal> {
 
 fn head_is_right(record: &Record, atoms: u8) -> bool {
     match record.kind {
-        RULE => record.head < atoms,
+        RULE | CHOICE => record.head < atoms,
         CONSTRAINT => record.head == 0,
         _ => false,
     }
@@ -62,7 +64,7 @@ fn is_atom_list(list: &[u8], atoms: u8) -> bool {
     list.iter().all(|&atom| atom < atoms) && list.windows(2).all(|pair| pair[0] < pair[1])
 }
 
-/// Question 8: the entries of a sequence.
+/// Question 8: the entries of a sequence; fresh atoms are among the atoms.
 pub fn sequence(bytes: &[u8], atoms: u8) -> Result<Vec<u8>, Refusal> {
     ask(8, bytes.len() >= 3 && bytes[0] == 1)?;
     let number = usize::from(u16::from_be_bytes([bytes[1], bytes[2]]));

@@ -1,5 +1,6 @@
-//! Answer sets ("settled states") by guessing the negated atoms.
+//! Answer sets ("settled states") by guessing the atoms of question 11.
 
+use super::expanded;
 use crate::sheet::{Record, Sheet};
 use std::collections::BTreeSet;
 
@@ -12,21 +13,40 @@ struct Rule {
     negatives: Atoms,
 }
 
-/// The atoms in the negative list of some rule.
-pub fn negated(sheet: &Sheet) -> BTreeSet<u8> {
-    sheet.rules().flat_map(|rule| rule.negatives.iter().copied()).collect()
+/// The atoms of question 11: those in the negative list of some rule or choice rule, and the heads of choice rules.
+pub fn decided(sheet: &Sheet) -> BTreeSet<u8> {
+    let negated = sheet.rules().chain(sheet.choices()).flat_map(|record| record.negatives.iter().copied());
+    negated.chain(sheet.choices().map(|choice| choice.head)).collect()
 }
 
-/// Every answer set. One that agrees with a guess on the negated atoms is the least model of the guess's reduct.
+/// Every answer set of the sheet in which choice rules are the pairs of rules that they stand for. There is at most one
+/// that agrees with a guess on the atoms of question 11: `candidate` is the only state that can be it. Whether it is an
+/// answer set is asked by the definition.
 pub fn answer_sets(sheet: &Sheet) -> Vec<Atoms> {
     let rules: Vec<_> = sheet.rules().map(masks).collect();
-    let constraints: Vec<_> = sheet.constraints().map(masks).collect();
-    let negated: Vec<u8> = negated(sheet).into_iter().collect();
-    let all = set(&negated);
-    guesses(&negated)
-        .filter_map(|guess| Some(least_model(&reduct(&rules, guess))).filter(|model| model & all == guess))
-        .filter(|&model| !constraints.iter().any(|constraint| holds(constraint, model)))
+    let choices: Vec<_> = sheet.choices().map(masks).collect();
+    let program = expanded(sheet);
+    let program_rules: Vec<_> = program.rules().map(masks).collect();
+    let constraints: Vec<_> = program.constraints().map(masks).collect();
+    let decided: Vec<u8> = decided(sheet).into_iter().collect();
+    let all = set(&decided);
+    guesses(&decided)
+        .filter_map(|guess| Some(candidate(&rules, &choices, sheet.atoms, guess)).filter(|state| state & all == guess))
+        .filter(|&state| least_model(&reduct(&program_rules, state)) == state)
+        .filter(|&state| !constraints.iter().any(|constraint| holds(constraint, state)))
         .collect()
+}
+
+/// In an answer set that contains the head of a choice rule, its fresh atom is out, and the head's rule is in the reduct
+/// if its negative atoms are out. In one that does not, the head's rule derives nothing. So the written atoms are the
+/// least model of the rules and of the choice rules with a head that is guessed in. A fresh atom is in if the body
+/// holds and the head is out.
+fn candidate(rules: &[Rule], choices: &[Rule], written: u8, guess: Atoms) -> Atoms {
+    let chosen = choices.iter().filter(|choice| choice.head & guess != 0);
+    let kept = rules.iter().chain(chosen).filter(|rule| rule.negatives & guess == 0).collect::<Vec<_>>();
+    let state = least_model(&kept);
+    let fresh = choices.iter().enumerate().filter(|(_, choice)| holds(choice, state) && choice.head & state == 0);
+    fresh.fold(state, |state, (place, _)| state | 1 << (usize::from(written) + place))
 }
 
 fn guesses(atoms: &[u8]) -> impl Iterator<Item = Atoms> + '_ {

@@ -1,6 +1,6 @@
 //! The unfolded program and the clauses of its completion.
 
-use super::Graph;
+use super::{expanded, Graph};
 use crate::sheet::{Record, Sheet};
 use std::collections::BTreeMap;
 
@@ -27,6 +27,7 @@ pub struct Unfolded {
 
 impl Unfolded {
     pub fn new(sheet: &Sheet, graph: &Graph, entries: &[u8]) -> Unfolded {
+        let sheet = expanded(sheet);
         let mut latest = BTreeMap::new();
         let mut copies = Vec::new();
         for (&atom, variable) in entries.iter().zip(copy_variables(sheet.atoms, entries)) {

@@ -7,10 +7,10 @@ use Rattle.clause_output.proofs.put_backs.Statement.{statement}
 use Rattle.clause_output.proofs.put_backs.Tie as tie
 
 abbrev Inv-loop : tie.InvT-loop
-Inv-loop out₀ at from to pos neg lasts next₀ j₀ out next j = BacksLeft pos neg lasts out₀ at from to out next j
+Inv-loop out₀ at from to pos neg added lasts next₀ j₀ out next j = BacksLeft pos neg added lasts out₀ at from to out next j
 
 abbrev μ-loop : tie.MeasureT-loop
-μ-loop out₀ at from to pos neg lasts next₀ j₀ out next j = to - j
+μ-loop out₀ at from to pos neg added lasts next₀ j₀ out next j = to - j
 
 loop-holds : tie.Need-loop-holds Inv-loop μ-loop
 loop-holds c = search (needs, backs-start)
@@ -26,6 +26,9 @@ mul-put-back-2 c = search needs
 
 element-copy-out-put-back-2 : tie.Need-element-copy-out-put-back-2 Inv-loop μ-loop
 element-copy-out-put-back-2 c = search needs
+
+element-copy-out-put-back-3 : tie.Need-element-copy-out-put-back-3 Inv-loop μ-loop
+element-copy-out-put-back-3 c = search needs
 
 put-back-requires : tie.Need-put-back-requires Inv-loop μ-loop
 put-back-requires c κs = (search (needs, last-small), search needs, search (needs, backs-room))
@@ -56,6 +59,7 @@ put-backs-spec =
     element-copy-out-put-back
     mul-put-back-2
     element-copy-out-put-back-2
+    element-copy-out-put-back-3
     put-back-requires
     add-j
     loop-less

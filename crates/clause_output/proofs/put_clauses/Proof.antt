@@ -4,14 +4,14 @@ use borrow.Author.Needs.{needs}
 use Rattle.clause_output.proofs.put_clauses.Statement.{statement}
 use Rattle.clause_output.proofs.put_clauses.Tie as tie
 
+add-to : tie.Need-add-to
+add-to c = search needs
+
 last-copies-requires : tie.Need-last-copies-requires
 last-copies-requires c κs = search needs
 
 put-copies-requires : tie.Need-put-copies-requires
 put-copies-requires c κs = (search needs, search needs, search (needs, all-first))
-
-add-put-backs : tie.Need-add-put-backs
-add-put-backs c = search needs
 
 put-backs-requires : tie.Need-put-backs-requires
 put-backs-requires c κs = (search needs, search needs, search (needs, all-second))
@@ -26,9 +26,9 @@ pub put-clauses-spec : {M : Type 1} → statement M
 put-clauses-spec =
     tie.close
     (tie.spec
+    add-to
     last-copies-requires
     put-copies-requires
-    add-put-backs
     put-backs-requires
     same-length
     returns)

@@ -22,11 +22,11 @@ last-places-requires c κs = (search (needs, ready-below), search needs, search 
 cast-fresh : tie.Need-cast-fresh Inv-loop μ-loop
 cast-fresh c = search needs
 
-sub-t21 : tie.Need-sub-t21 Inv-loop μ-loop
-sub-t21 c = search needs
+sub-t22 : tie.Need-sub-t22 Inv-loop μ-loop
+sub-t22 c = search needs
 
-cast-t22 : tie.Need-cast-t22 Inv-loop μ-loop
-cast-t22 c = search needs
+cast-t23 : tie.Need-cast-t23 Inv-loop μ-loop
+cast-t23 c = search needs
 
 loop-holds : tie.Need-loop-holds Inv-loop μ-loop
 loop-holds c = search (needs, copies-start)
@@ -42,7 +42,7 @@ overlay-requires c κs = c .before .before .before .before .before .before .befo
 
 put-copy-requires : tie.Need-put-copy-requires Inv-loop μ-loop
 put-copy-requires c κs =
-    let laid = c .before .before .before .before .before in
+    let laid = c .before .before .before .before .before .before in
     let kept = laid .before .before .before .before in
     let made = kept .before .before .before .before in
     let test = made .before .before in
@@ -65,15 +65,15 @@ with-requires : tie.Need-with-requires Inv-loop μ-loop
 with-requires c κs = search needs
 
 add-i : tie.Need-add-i Inv-loop μ-loop
-add-i c = let test = c .before .before .before .before .before .before .before .before .before .before .before .before .before .before .before .before .before .before in let start = test .before .before .before .before .before in omega (arith, test .loop-test .taken, start .pre .0 .short)
+add-i c = let test = c .before .before .before .before .before .before .before .before .before .before .before .before .before .before .before .before .before .before .before in let start = test .before .before .before .before .before in omega (arith, test .loop-test .taken, start .pre .0 .short)
 
 loop-less : tie.Need-loop-less Inv-loop μ-loop
-loop-less c = omega (arith, c .before .before .before .before .before .before .before .before .before .before .before .before .before .before .before .before .before .before .loop-test .taken)
+loop-less c = omega (arith, c .before .before .before .before .before .before .before .before .before .before .before .before .before .before .before .before .before .before .before .loop-test .taken)
 
 loop-again : tie.Need-loop-again Inv-loop μ-loop
 loop-again c =
     let put = c .before .before in
-    let laid = put .before .before .before .before .before .before in
+    let laid = put .before .before .before .before .before .before .before in
     let kept = laid .before .before .before .before in
     let made = kept .before .before .before .before in
     let test = made .before .before in
@@ -94,8 +94,8 @@ put-copies-spec =
     μ-loop
     last-places-requires
     cast-fresh
-    sub-t21
-    cast-t22
+    sub-t22
+    cast-t23
     loop-holds
     copy-at-requires
     kept-rules-requires

@@ -13,8 +13,8 @@ put-first-requires c κs = (search (needs, copy-first), search needs, search (ne
 put-rules-requires : tie.Need-put-rules-requires
 put-rules-requires c κs = (search needs, search needs, search needs, search needs, search (needs, copy-numbers), search (needs, copy-second))
 
-add-t18 : tie.Need-add-t18
-add-t18 c = search needs
+add-t19 : tie.Need-add-t19
+add-t19 c = search needs
 
 same-length : tie.Need-same-length
 same-length c = search needs
@@ -24,4 +24,4 @@ returns c = search (needs, copy-put)
 
 pub put-copy-spec : {M : Type 1} → statement M
 put-copy-spec =
-    tie.close (tie.spec cast-k put-first-requires put-rules-requires add-t18 same-length returns)
+    tie.close (tie.spec cast-k put-first-requires put-rules-requires add-t19 same-length returns)

@@ -6,10 +6,10 @@ use Rattle.clause_output.proofs.put_rules.Statement.{statement}
 use Rattle.clause_output.proofs.put_rules.Tie as tie
 
 abbrev Inv-loop : tie.InvT-loop
-Inv-loop out₀ at pos neg vars lasts k entries var rule₀ next₀ j₀ out rule next j = RulesLeft pos neg vars var rule₀ entries k out₀ at out next rule j
+Inv-loop out₀ at pos neg added vars lasts k entries var rule₀ next₀ j₀ out rule next j = RulesLeft pos neg added vars var rule₀ entries k out₀ at out next rule j
 
 abbrev μ-loop : tie.MeasureT-loop
-μ-loop out₀ at pos neg vars lasts k entries var rule₀ next₀ j₀ out rule next j = k - j
+μ-loop out₀ at pos neg added vars lasts k entries var rule₀ next₀ j₀ out rule next j = k - j
 
 loop-holds : tie.Need-loop-holds Inv-loop μ-loop
 loop-holds c = search (needs, rules-start)
@@ -28,6 +28,9 @@ mul-put-rule-2 c = search needs
 
 element-copy-out-put-rule-2 : tie.Need-element-copy-out-put-rule-2 Inv-loop μ-loop
 element-copy-out-put-rule-2 c = search needs
+
+element-copy-out-put-rule-3 : tie.Need-element-copy-out-put-rule-3 Inv-loop μ-loop
+element-copy-out-put-rule-3 c = search needs
 
 put-rule-requires : tie.Need-put-rule-requires Inv-loop μ-loop
 put-rule-requires c κs = (search needs, search needs, search needs, search (needs, rules-variable), search (needs, rules-room))
@@ -62,6 +65,7 @@ put-rules-spec =
     element-copy-out-put-rule
     mul-put-rule-2
     element-copy-out-put-rule-2
+    element-copy-out-put-rule-3
     put-rule-requires
     add-rule
     add-j

@@ -14,8 +14,8 @@ use Rattle.clause_output.specs.declared.Ends.{Ends}
 use Rattle.clause_output.specs.declared.Numbers.{Numbers}
 
 -- The words of the clauses of the rules for h at the first k entries that are listed; their variables are counted on from d.
-unfoldable pub rulesWords : List ℕ → List ℕ → List ℕ → ℕ → ℕ → List ℕ → ℕ → List ℤ
-rulesWords pos neg vars h d entries k = signedWords (rulesClauses h d (bodiesBy pos neg vars entries k))
+unfoldable pub rulesWords : List ℕ → List ℕ → List ℕ → List ℕ → ℕ → ℕ → List ℕ → ℕ → List ℤ
+rulesWords pos neg added vars h d entries k = signedWords (rulesClauses h d (bodiesBy pos neg added vars entries k))
 
 -- The literals from .. to - 1.
 unfoldable pub numbersWords : ℕ → ℕ → List ℤ
@@ -26,20 +26,21 @@ unfoldable pub firstWords : ℕ → ℕ → ℕ → List ℤ
 firstWords h d k = clauseWords (negative h ∷ map positive (range d k))
 
 -- The words of the clauses of a copy whose rules have the variables from d on.
-unfoldable pub copyClauseWords : List ℕ → List ℕ → List ℕ → ℕ → ℕ → KeptRules → List ℤ
-copyClauseWords pos neg vars d var kept = signedWords (copyClauses d (record { atom = 0; var = var; kept = bodiesBy pos neg vars (kept .entries) (kept .rules) }))
+unfoldable pub copyClauseWords : List ℕ → List ℕ → List ℕ → List ℕ → ℕ → ℕ → KeptRules → List ℤ
+copyClauseWords pos neg added vars d var kept =
+    signedWords (copyClauses d (record { atom = 0; var = var; kept = bodiesBy pos neg added vars (kept .entries) (kept .rules) }))
 
 -- The words of the clauses of all copies.
 unfoldable pub copiesClauseWords : Unfolded → List ℤ
 copiesClauseWords U = signedWords (copiesClauses (suc (length (U .copies))) (U .copies))
 
 -- The words of the clauses of the constraints at the entries from .. to - 1.
-unfoldable pub backsWords : List ℕ → List ℕ → List ℕ → ℕ → ℕ → List ℤ
-backsWords pos neg vars from to = signedWords (map constraintClause (map (entryBody pos neg vars) (range from (to - from))))
+unfoldable pub backsWords : List ℕ → List ℕ → List ℕ → List ℕ → ℕ → ℕ → List ℤ
+backsWords pos neg added vars from to = signedWords (map constraintClause (map (entryBody pos neg added vars) (range from (to - from))))
 
 -- A copy's clauses are written, and the next rule's variable comes behind.
-pub record CopyPut (pos neg vars : List ℕ) (var : ℕ) (kept : KeptRules) (old new : List ℤ) (from to : Ends) : Type 0 where
-  pub wrote : Wrote old (from .at) (copyClauseWords pos neg vars (from .rule) var kept) new (to .at)
+pub record CopyPut (pos neg added vars : List ℕ) (var : ℕ) (kept : KeptRules) (old new : List ℤ) (from to : Ends) : Type 0 where
+  pub wrote : Wrote old (from .at) (copyClauseWords pos neg added vars (from .rule) var kept) new (to .at)
   pub rule : to .rule ≡ from .rule + kept .rules
 
 -- How many words, variables and clauses there are.

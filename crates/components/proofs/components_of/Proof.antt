@@ -6,31 +6,22 @@ use Rattle.components.proofs.components_of.Tie as tie
 use Rattle.components.proofs.components_of.Reads as reads
 use Rattle.components.proofs.components_of.Lts as lts
 use Rattle.components.proofs.close.Reads as close-reads
-use Rattle.components.proofs.store_edges.Reads as store-edges-reads
 use Rattle.components.proofs.store_names.Reads as store-names-reads
 use Rattle.components.proofs.store_sets.Reads as store-sets-reads
 
--- src/lib.rt:151:5
-store-edges-requires : tie.Need-store-edges-requires
-store-edges-requires c κs = search needs
-
--- src/lib.rt:153:5
 close-requires : tie.Need-close-requires
 close-requires c κs = search needs
 
--- src/lib.rt:154:5
 store-names-requires : tie.Need-store-names-requires
 store-names-requires c κs = search needs
 
--- src/lib.rt:155:5
 store-sets-requires : tie.Need-store-sets-requires
 store-sets-requires c κs = (search needs, search needs, search (needs, named-low))
 
--- src/lib.rt:139:1
 returns : tie.Need-returns
 returns c = search (needs, graph-made)
 
 pub components-of-spec : {M : Type 1} → statement M
 components-of-spec =
     tie.close
-    (tie.spec store-edges-requires close-requires store-names-requires store-sets-requires returns)
+    (tie.spec close-requires store-names-requires store-sets-requires returns)

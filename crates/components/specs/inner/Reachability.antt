@@ -1,17 +1,14 @@
 -- Tables of rows of bits: what the steps promise that find the components of a program.
-use mathlib.Core.Bool.{Bool, _&&_, _||_}
+use mathlib.Core.Bool.{Bool, true, _&&_, _||_}
 use mathlib.Core.List.{List}
 use mathlib.Core.Path.{_≡_}
 use Prim.Native.Nat.{ℕ, zero, suc, _≤_, _<_}
 use lib.Dec.{eqb, ltb, leb}
 use lib.ListN.{length, getD}
-use Rattle.lists.specs.Lists.{all, any, filter, member, range}
-use Rattle.asp.specs.Program.{Program}
+use Rattle.lists.specs.Lists.{all, filter, range}
+use Rattle.asp.specs.Program.{Program, wellFormed}
 use Rattle.unfolding.specs.Graph.{edge, first, component}
 use Rattle.bits.specs.inner.Sets.{has}
-use Rattle.bits.specs.inner.Visited.{listed}
-use Rattle.program.specs.declared.ProgramTable.{ProgramTable}
-use Rattle.program.specs.inner.Held.{programIn, Readable}
 use Rattle.components.specs.declared.Components.{Components}
 
 -- A relation between atoms.
@@ -35,22 +32,6 @@ pub record Holds (n : ℕ) (R : Relation) (rows : List ℕ) : Type 0 where
 -- The edges of the program, each in the row of the atom that it leads to.
 abbrev pub EdgesOf : Program → List ℕ → Type 0
 EdgesOf P rows = Holds (P .atoms) (λ a b. edge P b a) rows
-
--- The heads of the first so many rules have rows.
-pub record HeadsLow (rules : ℕ) (heads : List ℕ) : Type 0 where
-  pub low : (j : ℕ) → j < rules → getD heads j 0 < 64
-
--- One of k rules, from the j-th on, has the head a and the positive atom b.
-unfoldable pub leadsAt : List ℕ → List ℕ → ℕ → ℕ → Relation
-leadsAt heads pos j k a b = any (λ i. eqb (getD heads i 0) a && member b (listed (getD pos i 0))) (range j k)
-
--- The edges of the first so many rules.
-abbrev pub EdgesAt : List ℕ → List ℕ → ℕ → List ℕ → Type 0
-EdgesAt heads pos rules rows = Holds 64 (leadsAt heads pos 0 rules) rows
-
--- A row with the atoms of a set.
-pub record Linked (row x r : ℕ) : Type 0 where
-  pub members : (b : ℕ) → has r b ≡ (member b (listed x) || has row b)
 
 -- A row x after the round for k, whose row is given.
 pub record RowThrough (x k row r : ℕ) : Type 0 where
@@ -110,6 +91,6 @@ pub record ComponentsOf (P : Program) (r : Components) : Type 0 where
   pub named : NamesOf P (r .names)
   pub grouped : SetsOf (r .names) (P .atoms) (r .sets)
 
--- The graph of every program of n atoms whose rules have these heads and positive atoms.
-pub record GraphOf (n rules : ℕ) (heads pos : List ℕ) (r : Components) : Type 0 where
-  pub is : (t : ProgramTable) → Readable t → t .atoms ≡ n → t .rules ≡ rules → t .heads ≡ heads → t .pos ≡ pos → ComponentsOf (programIn t) r
+-- The graph of every program of n atoms with these edges.
+pub record GraphOf (n : ℕ) (edges : List ℕ) (r : Components) : Type 0 where
+  pub is : (P : Program) → wellFormed P ≡ true → P .atoms ≡ n → EdgesOf P edges → ComponentsOf P r

@@ -6,10 +6,10 @@ use Rattle.copies.proofs.atoms_at.Statement.{statement}
 use Rattle.copies.proofs.atoms_at.Tie as tie
 
 abbrev Inv-loop : tie.InvT-loop
-Inv-loop pos neg from to atoms₀ j₀ atoms j = Adding pos neg from to atoms j
+Inv-loop pos neg added from to atoms₀ j₀ atoms j = Adding pos neg added from to atoms j
 
 abbrev μ-loop : tie.MeasureT-loop
-μ-loop pos neg from to atoms₀ j₀ atoms j = to - j
+μ-loop pos neg added from to atoms₀ j₀ atoms j = to - j
 
 loop-holds : tie.Need-loop-holds Inv-loop μ-loop
 loop-holds c = search (needs, adding-start)
@@ -25,6 +25,9 @@ mul-body-atoms-2 c = search needs
 
 element-copy-out-body-atoms-2 : tie.Need-element-copy-out-body-atoms-2 Inv-loop μ-loop
 element-copy-out-body-atoms-2 c = search needs
+
+element-copy-out-body-atoms-3 : tie.Need-element-copy-out-body-atoms-3 Inv-loop μ-loop
+element-copy-out-body-atoms-3 c = search needs
 
 body-atoms-requires : tie.Need-body-atoms-requires Inv-loop μ-loop
 body-atoms-requires c κs = search needs
@@ -55,6 +58,7 @@ atoms-at-spec =
     element-copy-out-body-atoms
     mul-body-atoms-2
     element-copy-out-body-atoms-2
+    element-copy-out-body-atoms-3
     body-atoms-requires
     add-atoms
     add-j

@@ -10,8 +10,8 @@ size-requires c κs = search needs
 cast-result : tie.Need-cast-result
 cast-result c = search needs
 
-size-requires-2 : tie.Need-size-requires-2
-size-requires-2 c κs = search needs
+negative-atoms-requires : tie.Need-negative-atoms-requires
+negative-atoms-requires c κs = search needs
 
 cast-result-2 : tie.Need-cast-result-2
 cast-result-2 c = search needs
@@ -24,4 +24,4 @@ returns c = search (needs, atoms-sized)
 
 pub body-atoms-spec : {M : Type 1} → statement M
 body-atoms-spec =
-    tie.close (tie.spec size-requires cast-result size-requires-2 cast-result-2 add-result returns)
+    tie.close (tie.spec size-requires cast-result negative-atoms-requires cast-result-2 add-result returns)

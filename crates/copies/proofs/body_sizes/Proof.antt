@@ -1,63 +1,52 @@
+-- `copies::body_sizes` meets its contract, one law for each way through it.
 use borrow.Author.Needs.{needs}
 use Prim.Native.Nat.{_-_}
 use Rattle.copies.proofs.Keeping.{Sizing, sizing-start, sizing-fits, sizing-turn, sizing-end}
 use Rattle.copies.proofs.body_sizes.Statement.{statement}
 use Rattle.copies.proofs.body_sizes.Tie as tie
-use Rattle.copies.proofs.body_sizes.Reads as reads
-use Rattle.copies.proofs.body_sizes.Lts as lts
-use Rattle.copies.proofs.body_atoms.Reads as body-atoms-reads
 
 abbrev Inv-loop : tie.InvT-loop
-Inv-loop pos neg rules sizes₀ j₀ sizes j = Sizing pos neg rules sizes j
+Inv-loop pos neg added rules sizes₀ j₀ sizes j = Sizing pos neg added rules sizes j
 
 abbrev μ-loop : tie.MeasureT-loop
-μ-loop pos neg rules sizes₀ j₀ sizes j = rules - j
+μ-loop pos neg added rules sizes₀ j₀ sizes j = rules - j
 
--- src/lib.rt:212:5
 loop-holds : tie.Need-loop-holds Inv-loop μ-loop
 loop-holds c = search (needs, sizing-start)
 
--- src/lib.rt:213:31
 mul-body-atoms : tie.Need-mul-body-atoms Inv-loop μ-loop
 mul-body-atoms c = search needs
 
--- src/lib.rt:213:31
 element-copy-out-body-atoms : tie.Need-element-copy-out-body-atoms Inv-loop μ-loop
 element-copy-out-body-atoms c = search needs
 
--- src/lib.rt:213:39
 mul-body-atoms-2 : tie.Need-mul-body-atoms-2 Inv-loop μ-loop
 mul-body-atoms-2 c = search needs
 
--- src/lib.rt:213:39
 element-copy-out-body-atoms-2 : tie.Need-element-copy-out-body-atoms-2 Inv-loop μ-loop
 element-copy-out-body-atoms-2 c = search needs
 
--- src/lib.rt:213:20
+element-copy-out-body-atoms-3 : tie.Need-element-copy-out-body-atoms-3 Inv-loop μ-loop
+element-copy-out-body-atoms-3 c = search needs
+
 body-atoms-requires : tie.Need-body-atoms-requires Inv-loop μ-loop
 body-atoms-requires c κs = search needs
 
--- src/lib.rt:213:20
 cast-sizes : tie.Need-cast-sizes Inv-loop μ-loop
 cast-sizes c = search (needs, sizing-fits)
 
--- src/lib.rt:213:9
 array-write-sizes : tie.Need-array-write-sizes Inv-loop μ-loop
 array-write-sizes c = search needs
 
--- src/lib.rt:214:9
 add-j : tie.Need-add-j Inv-loop μ-loop
 add-j c = search needs
 
--- src/lib.rt:212:5
 loop-less : tie.Need-loop-less Inv-loop μ-loop
 loop-less c = search needs
 
--- src/lib.rt:212:5
 loop-again : tie.Need-loop-again Inv-loop μ-loop
 loop-again c = search (needs, sizing-turn)
 
--- src/lib.rt:206:1
 returns : tie.Need-returns Inv-loop μ-loop
 returns c = search (needs, sizing-end)
 
@@ -72,6 +61,7 @@ body-sizes-spec =
     element-copy-out-body-atoms
     mul-body-atoms-2
     element-copy-out-body-atoms-2
+    element-copy-out-body-atoms-3
     body-atoms-requires
     cast-sizes
     array-write-sizes

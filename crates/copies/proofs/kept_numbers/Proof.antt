@@ -1,13 +1,9 @@
+-- `copies::kept_numbers` meets its contract, one law for each way through it.
 use borrow.Author.Needs.{needs}
 use Prim.Native.Nat.{_-_}
 use Rattle.copies.proofs.Keeping.{CountedLeft, counted-start, counted-room, counted-turn, counted-end}
 use Rattle.copies.proofs.kept_numbers.Statement.{statement}
 use Rattle.copies.proofs.kept_numbers.Tie as tie
-use Rattle.copies.proofs.kept_numbers.Reads as reads
-use Rattle.copies.proofs.kept_numbers.Lts as lts
-use Rattle.bits.proofs.wide.Reads as wide-reads
-use Rattle.copies.proofs.add_if.Reads as add-if-reads
-use Rattle.copies.proofs.is_kept.Reads as is-kept-reads
 
 abbrev Inv-loop : tie.InvT-loop
 Inv-loop heads pos sizes rules a component copied kept₀ atoms₀ j₀ kept atoms j = CountedLeft heads pos rules a component copied sizes kept atoms j
@@ -15,51 +11,39 @@ Inv-loop heads pos sizes rules a component copied kept₀ atoms₀ j₀ kept ato
 abbrev μ-loop : tie.MeasureT-loop
 μ-loop heads pos sizes rules a component copied kept₀ atoms₀ j₀ kept atoms j = rules - j
 
--- src/lib.rt:241:5
 loop-holds : tie.Need-loop-holds Inv-loop μ-loop
 loop-holds c = search (needs, counted-start)
 
--- src/lib.rt:242:28
 element-copy-out-is-kept : tie.Need-element-copy-out-is-kept Inv-loop μ-loop
 element-copy-out-is-kept c = search needs
 
--- src/lib.rt:242:38
 mul-is-kept : tie.Need-mul-is-kept Inv-loop μ-loop
 mul-is-kept c = search needs
 
--- src/lib.rt:242:38
 element-copy-out-is-kept-2 : tie.Need-element-copy-out-is-kept-2 Inv-loop μ-loop
 element-copy-out-is-kept-2 c = search needs
 
--- src/lib.rt:242:13
 is-kept-requires : tie.Need-is-kept-requires Inv-loop μ-loop
 is-kept-requires c κs = search needs
 
--- src/lib.rt:243:9
 add-if-requires : tie.Need-add-if-requires Inv-loop μ-loop
 add-if-requires c κs = search needs
 
--- src/lib.rt:244:42
 element-copy-out-wide : tie.Need-element-copy-out-wide Inv-loop μ-loop
 element-copy-out-wide c = search needs
 
--- src/lib.rt:244:37
 wide-requires : tie.Need-wide-requires Inv-loop μ-loop
 wide-requires c κs = search needs
 
--- src/lib.rt:244:9
 add-if-requires-2 : tie.Need-add-if-requires-2 Inv-loop μ-loop
 add-if-requires-2 c κs = search (needs, counted-room)
 
--- src/lib.rt:245:9
 add-j : tie.Need-add-j Inv-loop μ-loop
 add-j c = search needs
 
--- src/lib.rt:241:5
 loop-less : tie.Need-loop-less Inv-loop μ-loop
 loop-less c = search needs
 
--- src/lib.rt:241:5
 loop-again : tie.Need-loop-again Inv-loop μ-loop
 loop-again c =
     let sized = c .before in
@@ -69,7 +53,6 @@ loop-again c =
     let start = test .before .before in
     counted-turn _ _ _ _ _ _ _ _ _ _ (test .before .loop .inv) (test .loop-test .taken) (start .pre .0) (start .pre .1) _ _ _ _ (asked .is-kept .ensures) (sized .wide .ensures) (first .add-if .ensures) (c .add-if2 .ensures)
 
--- src/lib.rt:226:1
 returns : tie.Need-returns Inv-loop μ-loop
 returns c = search (needs, counted-end)
 

@@ -1,12 +1,9 @@
+-- `copies::kept_rules` meets its contract, one law for each way through it.
 use borrow.Author.Needs.{needs}
 use Prim.Native.Nat.{_-_}
 use Rattle.copies.proofs.Keeping.{Keeping, keeping-start, keeping-turn, keeping-end}
 use Rattle.copies.proofs.kept_rules.Statement.{statement}
 use Rattle.copies.proofs.kept_rules.Tie as tie
-use Rattle.copies.proofs.kept_rules.Reads as reads
-use Rattle.copies.proofs.kept_rules.Lts as lts
-use Rattle.copies.proofs.add_if.Reads as add-if-reads
-use Rattle.copies.proofs.is_kept.Reads as is-kept-reads
 
 abbrev Inv-loop : tie.InvT-loop
 Inv-loop heads pos rules a component copied entries₀ kept₀ j₀ entries kept j = Keeping heads pos rules a component copied j entries kept
@@ -14,51 +11,39 @@ Inv-loop heads pos rules a component copied entries₀ kept₀ j₀ entries kept
 abbrev μ-loop : tie.MeasureT-loop
 μ-loop heads pos rules a component copied entries₀ kept₀ j₀ entries kept j = rules - j
 
--- src/lib.rt:188:5
 loop-holds : tie.Need-loop-holds Inv-loop μ-loop
 loop-holds c = search (needs, keeping-start)
 
--- src/lib.rt:189:28
 element-copy-out-is-kept : tie.Need-element-copy-out-is-kept Inv-loop μ-loop
 element-copy-out-is-kept c = search needs
 
--- src/lib.rt:189:38
 mul-is-kept : tie.Need-mul-is-kept Inv-loop μ-loop
 mul-is-kept c = search needs
 
--- src/lib.rt:189:38
 element-copy-out-is-kept-2 : tie.Need-element-copy-out-is-kept-2 Inv-loop μ-loop
 element-copy-out-is-kept-2 c = search needs
 
--- src/lib.rt:189:13
 is-kept-requires : tie.Need-is-kept-requires Inv-loop μ-loop
 is-kept-requires c κs = search needs
 
--- src/lib.rt:190:25
 cast-entries : tie.Need-cast-entries Inv-loop μ-loop
 cast-entries c = search needs
 
--- src/lib.rt:190:9
 array-write-entries : tie.Need-array-write-entries Inv-loop μ-loop
 array-write-entries c = search needs
 
--- src/lib.rt:191:9
 add-if-requires : tie.Need-add-if-requires Inv-loop μ-loop
 add-if-requires c κs = search needs
 
--- src/lib.rt:192:9
 add-j : tie.Need-add-j Inv-loop μ-loop
 add-j c = search needs
 
--- src/lib.rt:188:5
 loop-less : tie.Need-loop-less Inv-loop μ-loop
 loop-less c = search needs
 
--- src/lib.rt:188:5
 loop-again : tie.Need-loop-again Inv-loop μ-loop
 loop-again c = search (needs, keeping-turn)
 
--- src/lib.rt:174:1
 returns : tie.Need-returns Inv-loop μ-loop
 returns c = search (needs, keeping-end)
 

@@ -22,13 +22,13 @@ keptEntries heads pos rules a component copied = filter (λ i. keeps a component
 
 -- The first k numbers listed are entries of a table.
 pub record Inside (entries : List ℕ) (k : ℕ) : Type 0 where
-  pub few : k ≤ 128
-  pub low : (j : ℕ) → j < k → getD entries j 0 < 128
+  pub few : k ≤ 192
+  pub low : (j : ℕ) → j < k → getD entries j 0 < 192
 
 -- The number listed at j, an entry of a table.
 pub record ListedAt (entries : List ℕ) (j r : ℕ) : Type 0 where
   pub is : r ≡ getD entries j 0
-  pub low : r < 128
+  pub low : r < 192
 
 -- The rules kept for a copy of a.
 pub record Kept (heads pos : List ℕ) (rules a component copied : ℕ) (r : KeptRules) : Type 0 where
@@ -37,11 +37,11 @@ pub record Kept (heads pos : List ℕ) (rules a component copied : ℕ) (r : Kep
 
 -- Sizes that bodies have.
 pub record SmallSizes (sizes : List ℕ) : Type 0 where
-  pub low : (i : ℕ) → i < 128 → getD sizes i 0 ≤ 128
+  pub low : (i : ℕ) → i < 192 → getD sizes i 0 ≤ 129
 
 -- The sizes of the first so many bodies.
-pub record SizesOf (pos neg : List ℕ) (rules : ℕ) (sizes : List ℕ) : Type 0 where
-  pub is : (i : ℕ) → i < rules → getD sizes i 0 ≡ bodyAtoms (getD pos i 0) (getD neg i 0)
+pub record SizesOf (pos neg added : List ℕ) (rules : ℕ) (sizes : List ℕ) : Type 0 where
+  pub is : (i : ℕ) → i < rules → getD sizes i 0 ≡ bodyAtoms (getD pos i 0) (getD neg i 0) (getD added i 0)
   pub small : SmallSizes sizes
 
 -- The sum of the numbers that stand at the indices.

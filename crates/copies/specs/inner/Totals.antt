@@ -22,7 +22,7 @@ pub record TotalsOf (U : Unfolded) (r : Totals) : Type 0 where
   pub kept : KeptTotals U r
   pub constraints : r .constraints ≡ length (U .constraints)
   pub literals : r .literals ≡ atomCount (U .constraints)
-  pub few-rules : r .rules ≤ 81920
-  pub few-atoms : r .atoms ≤ 10485760
-  pub few-constraints : r .constraints ≤ 128
-  pub few-literals : r .literals ≤ 16384
+  pub few-rules : r .rules ≤ 122880
+  pub few-atoms : r .atoms ≤ 15851520
+  pub few-constraints : r .constraints ≤ 192
+  pub few-literals : r .literals ≤ 24768

@@ -3,28 +3,19 @@ use borrow.Author.Tests.{not-true, not-false}
 use borrow.Author.Needs.{needs}
 use Rattle.core.proofs.ask_sequence.Statement.{statement}
 use Rattle.core.proofs.ask_sequence.Tie as tie
-use Rattle.core.proofs.ask_sequence.Reads as reads
-use Rattle.core.proofs.ask_sequence.Lts as lts
-use Rattle.chains.proofs.passes.Reads as passes-reads
-use Rattle.sheet.proofs.sequence_fits.Reads as sequence-fits-reads
 
--- src/lib.rt:146:9
 sequence-fits-requires : tie.Need-sequence-fits-requires
 sequence-fits-requires c κs = search needs
 
--- src/lib.rt:147:9
 returns : tie.Need-returns
 returns c = search (needs, not-true, sequence-malformed)
 
--- src/lib.rt:149:9
 passes-requires : tie.Need-passes-requires
 passes-requires c κs = search (needs, not-false, sequence-long, sequence-low)
 
--- src/lib.rt:150:9
 returns-2 : tie.Need-returns-2
 returns-2 c = search (needs, not-true, not-false, sequence-lacks)
 
--- src/lib.rt:136:1
 returns-3 : tie.Need-returns-3
 returns-3 c = search (needs, not-false, sequence-passes)
 

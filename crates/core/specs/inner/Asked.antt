@@ -9,9 +9,9 @@ use Rattle.sheet.specs.Questions.{ask, _then_}
 use Rattle.sheet.specs.Format.{atomsByte, recordsByte}
 use Rattle.sheet.specs.inner.Walk.{formQuestions}
 use Rattle.sheet.specs.Sequence.{sequenceFits, entries}
-use Rattle.sheet.specs.Sheet.{program}
+use Rattle.sheet.specs.Sheet.{records, program}
 use Rattle.sheet.specs.declared.Limits.{Limits}
-use Rattle.program.specs.inner.Held.{programIn, Readable}
+use Rattle.reader.specs.inner.Tabled.{recordsAt, ExactSets, RecordArrays}
 use Rattle.components.specs.Limit.{componentsFit}
 use Rattle.components.specs.inner.Reachability.{ComponentsOf}
 use Rattle.chains.specs.inner.Subsets.{Graph}
@@ -29,8 +29,9 @@ pub record Supported (L : Limits) : Type 0 where
 pub record SheetAccepted (L : Limits) (s : List ℕ) (r : Asked) : Type 0 where
   pub form : formQuestions L s ≡ 0
   pub number : r .records ≡ recordsByte s
-  pub readable : Readable (r .program)
-  pub held : programIn (r .program) ≡ program s
+  pub written : r .written ≡ atomsByte s
+  pub atoms : r .atoms ≡ program s .atoms
+  pub low : r .atoms ≤ 64
   pub graph : ComponentsOf (program s) (r .components)
   pub limit : componentsFit (L .component) (program s) ≡ true
 
@@ -39,6 +40,17 @@ pub record SheetAsked (L : Limits) (s : List ℕ) (r : Asked) : Type 0 where
   pub says : r .refusal ≡ readQuestions L s
   pub accepted : r .refusal ≡ 0 → SheetAccepted L s r
 
+-- The arrays hold the records of the sheet.
+pub record RecordsKept (s ks hs ps ns : List ℕ) (r : Asked) : Type 0 where
+  pub list : recordsAt ks hs ps ns 0 (r .records) ≡ records s
+  pub exact : ExactSets (r .records) ps ns
+  pub long : RecordArrays ks hs ps ns
+
+-- The questions about a sheet, and its records where there is no refusal.
+pub record RecordsAsked (L : Limits) (s ks hs ps ns : List ℕ) (r : Asked) : Type 0 where
+  pub asked : SheetAsked L s r
+  pub kept : r .refusal ≡ 0 → RecordsKept s ks hs ps ns r
+
 -- The questions about a sequence, of any program of n atoms with this graph.
 pub record SequenceAsked (L : Limits) (n : ℕ) (edges sets q : List ℕ) (r : ℕ) : Type 0 where
   pub says : (P : Program) → Graph P n edges sets → r ≡ ask (sequenceFits L n q) 8 then ask (passes P (entries q)) 9
@@ -46,9 +58,14 @@ pub record SequenceAsked (L : Limits) (n : ℕ) (edges sets q : List ℕ) (r : �
 -- A sheet and a sequence that are not refused.
 pub record BothAccepted (L : Limits) (s q : List ℕ) (r : Asked) : Type 0 where
   pub sheet : SheetAccepted L s r
-  pub formed : sequenceFits L (atomsByte s) q ≡ true
+  pub formed : sequenceFits L (program s .atoms) q ≡ true
 
 -- The questions about a sheet and a sequence.
 pub record BothAsked (L : Limits) (s q : List ℕ) (r : Asked) : Type 0 where
   pub says : r .refusal ≡ testQuestions L s q
   pub accepted : r .refusal ≡ 0 → BothAccepted L s q r
+
+-- The same, with the records of the sheet.
+pub record BothKept (L : Limits) (s q ks hs ps ns : List ℕ) (r : Asked) : Type 0 where
+  pub asked : BothAsked L s q r
+  pub kept : r .refusal ≡ 0 → RecordsKept s ks hs ps ns r

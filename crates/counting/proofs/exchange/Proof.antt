@@ -1,11 +1,13 @@
--- `counting::exchange` meets its contract, one law for each way through it.
+use Rattle.counting.proofs.Ordering.{exchange-is}
 use borrow.Author.Needs.{needs}
-use Rattle.counting.proofs.Ordering.{exchange-reorders}
 use Rattle.counting.proofs.exchange.Statement.{statement}
 use Rattle.counting.proofs.exchange.Tie as tie
 
-element-copy-out-h : tie.Need-element-copy-out-h
-element-copy-out-h c = search needs
+element-copy-out-kind : tie.Need-element-copy-out-kind
+element-copy-out-kind c = search needs
+
+element-copy-out-head : tie.Need-element-copy-out-head
+element-copy-out-head c = search needs
 
 mul-p : tie.Need-mul-p
 mul-p c = search needs
@@ -13,11 +15,17 @@ mul-p c = search needs
 element-copy-out-p : tie.Need-element-copy-out-p
 element-copy-out-p c = search needs
 
-mul-q : tie.Need-mul-q
-mul-q c = search needs
+mul-n : tie.Need-mul-n
+mul-n c = search needs
 
-element-copy-out-q : tie.Need-element-copy-out-q
-element-copy-out-q c = search needs
+element-copy-out-n : tie.Need-element-copy-out-n
+element-copy-out-n c = search needs
+
+element-copy-out-kinds : tie.Need-element-copy-out-kinds
+element-copy-out-kinds c = search needs
+
+element-write-kinds : tie.Need-element-write-kinds
+element-write-kinds c = search needs
 
 element-copy-out-heads : tie.Need-element-copy-out-heads
 element-copy-out-heads c = search needs
@@ -49,6 +57,9 @@ mul-neg-2 c = search needs
 element-write-neg : tie.Need-element-write-neg
 element-write-neg c = search needs
 
+element-write-kinds-2 : tie.Need-element-write-kinds-2
+element-write-kinds-2 c = search needs
+
 element-write-heads-2 : tie.Need-element-write-heads-2
 element-write-heads-2 c = search needs
 
@@ -65,17 +76,20 @@ element-write-neg-2 : tie.Need-element-write-neg-2
 element-write-neg-2 c = search needs
 
 returns : tie.Need-returns
-returns c = search (needs, exchange-reorders)
+returns c = search (needs, exchange-is)
 
 pub exchange-spec : {M : Type 1} → statement M
 exchange-spec =
     tie.close
     (tie.spec
-    element-copy-out-h
+    element-copy-out-kind
+    element-copy-out-head
     mul-p
     element-copy-out-p
-    mul-q
-    element-copy-out-q
+    mul-n
+    element-copy-out-n
+    element-copy-out-kinds
+    element-write-kinds
     element-copy-out-heads
     element-write-heads
     mul-pos
@@ -86,6 +100,7 @@ exchange-spec =
     element-copy-out-neg
     mul-neg-2
     element-write-neg
+    element-write-kinds-2
     element-write-heads-2
     mul-pos-3
     element-write-pos-2

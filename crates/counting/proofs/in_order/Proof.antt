@@ -1,6 +1,5 @@
--- `counting::in_order` meets its contract, one law for each way through it.
-use borrow.Author.Needs.{needs}
 use Rattle.counting.proofs.Ordering.{five-times}
+use borrow.Author.Needs.{needs}
 use Rattle.counting.proofs.in_order.Statement.{statement}
 use Rattle.counting.proofs.in_order.Tie as tie
 
@@ -17,14 +16,14 @@ rise-by-requires-4 : tie.Need-rise-by-requires-4
 rise-by-requires-4 c κs = search needs
 
 rise-by-requires-5 : tie.Need-rise-by-requires-5
-rise-by-requires-5 c κs = search needs
+rise-by-requires-5 c κs = (c .before .before .before .before .rise-by4 .ensures .full, search needs, c .before .before .before .before .before .before .before .before .before .before .before .before .before .before .before .before .before .before .before .before .before .before .before .before .pre .1)
 
 returns : tie.Need-returns
 returns c =
-    let fourth = c .before .before .before .before in
-    let third = fourth .before .before .before .before in
-    let second = third .before .before .before .before in
-    let first = second .before .before .before .before in
+    let fourth = c .before .before .before .before .before in
+    let third = fourth .before .before .before .before .before in
+    let second = third .before .before .before .before .before in
+    let first = second .before .before .before .before .before in
     five-times _ _ _ _ _ _ _ (first .rise-by .ensures) (second .rise-by2 .ensures) (third .rise-by3 .ensures) (fourth .rise-by4 .ensures) (c .rise-by5 .ensures)
 
 pub in-order-spec : {M : Type 1} → statement M

@@ -7,10 +7,10 @@ use Rattle.counting.proofs.rise_by.Statement.{statement}
 use Rattle.counting.proofs.rise_by.Tie as tie
 
 abbrev Inv-loop : tie.InvT-loop
-Inv-loop heads₀ pos₀ neg₀ rows gap k j₀ heads pos neg j = Reordered k (entriesOf heads₀ pos₀ neg₀) (entriesOf heads pos neg)
+Inv-loop kinds₀ heads₀ pos₀ neg₀ rows gap k j₀ kinds heads pos neg j = Reordered k (entriesOf kinds₀ heads₀ pos₀ neg₀) (entriesOf kinds heads pos neg)
 
 abbrev μ-loop : tie.MeasureT-loop
-μ-loop heads₀ pos₀ neg₀ rows gap k j₀ heads pos neg j = k - j
+μ-loop kinds₀ heads₀ pos₀ neg₀ rows gap k j₀ kinds heads pos neg j = k - j
 
 loop-holds : tie.Need-loop-holds Inv-loop μ-loop
 loop-holds c = search (needs, reordered-start)

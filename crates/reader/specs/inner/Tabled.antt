@@ -2,27 +2,36 @@
 use mathlib.Core.Bool.{true}
 use mathlib.Core.List.{List, map}
 use mathlib.Core.Path.{_≡_}
-use Prim.Native.Nat.{ℕ, _≤_}
+use Prim.Native.Nat.{ℕ, _≤_, _<_}
 use lib.ListN.{length, getD}
-use Rattle.lists.specs.Lists.{range}
-use Rattle.bits.specs.inner.Sets.{Gathered}
+use Rattle.lists.specs.Lists.{member, range}
+use Rattle.bits.specs.inner.Sets.{has, Gathered}
+use Rattle.bits.specs.inner.Visited.{listed}
 use Rattle.sheet.specs.Questions.{ask}
 use Rattle.sheet.specs.Format.{end, listFits, listsFit, recordQuestions, recordsQuestions, atomsByte, recordsByte}
 use Rattle.sheet.specs.inner.Walk.{formQuestions}
 use Rattle.sheet.specs.Sheet.{Record, recordAt, recordsFrom}
 use Rattle.sheet.specs.declared.Limits.{Limits}
-use Rattle.program.specs.inner.Held.{bodyOf}
 use Rattle.reader.specs.declared.Gather.{Gather}
 use Rattle.reader.specs.declared.Entry.{Entry}
 use Rattle.reader.specs.declared.Header.{Header}
 
 -- The record of a kind, a head and two sets.
 unfoldable pub recordOf : ℕ → ℕ → ℕ → ℕ → Record
-recordOf kind head pos neg = record { kind = kind; head = head; body = bodyOf pos neg }
+recordOf kind head pos neg = record { kind = kind; head = head; body = record { pos = listed pos; neg = listed neg } }
 
 -- The records at k entries, from the j-th on.
 unfoldable pub recordsAt : List ℕ → List ℕ → List ℕ → List ℕ → ℕ → ℕ → List Record
 recordsAt kinds heads pos neg j k = map (λ i. recordOf (getD kinds i 0) (getD heads i 0) (getD pos i 0) (getD neg i 0)) (range j k)
+
+-- The set has what its list says, so no number from 64 on.
+abbrev pub Exact : ℕ → Type 0
+Exact x = (a : ℕ) → has x a ≡ member a (listed x)
+
+-- The sets of the first m records are exact.
+pub record ExactSets (m : ℕ) (ps ns : List ℕ) : Type 0 where
+  pub pos : (j : ℕ) → j < m → Exact (getD ps j 0)
+  pub neg : (j : ℕ) → j < m → Exact (getD ns j 0)
 
 -- Question 6 of a list, and its set.
 pub record ListRead (n : ℕ) (l : List ℕ) (r : Gather) : Type 0 where
@@ -33,6 +42,8 @@ pub record ListRead (n : ℕ) (l : List ℕ) (r : Gather) : Type 0 where
 pub record Taken (s : List ℕ) (at : ℕ) (r : Entry) : Type 0 where
   pub end : r .end ≡ end s at
   pub is : recordOf (r .kind) (r .head) (r .pos) (r .neg) ≡ recordAt s at
+  pub pos : Exact (r .pos)
+  pub neg : Exact (r .neg)
 
 -- Question 6 of a record, and what is read.
 pub record ListsRead (n : ℕ) (s : List ℕ) (at : ℕ) (r : Entry) : Type 0 where
@@ -69,3 +80,5 @@ pub record RecordArrays (ks hs ps ns : List ℕ) : Type 0 where
 pub record RecordsRead (n m : ℕ) (s ks hs ps ns : List ℕ) (r : ℕ) : Type 0 where
   pub says : r ≡ recordsQuestions m n s 5
   pub stored : r ≡ 0 → recordsAt ks hs ps ns 0 m ≡ recordsFrom m s 5
+  pub exact : r ≡ 0 → ExactSets m ps ns
+  pub long : RecordArrays ks hs ps ns

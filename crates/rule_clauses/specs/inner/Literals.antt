@@ -5,8 +5,10 @@ use Prim.Native.Nat.{ℕ, _<_}
 use lib.IntN.{ℤ}
 use lib.ListN.{getD}
 use Rattle.asp.specs.Program.{Body}
+use Rattle.unfolding.specs.Unfolded.{last}
 use Rattle.unfolding.specs.Clauses.{Literal, positive, negative, negated, Clause, literals, ruleClauses, constraintClause, signed, clauseWords, signedWords}
 use Rattle.bits.specs.inner.Visited.{listed}
+use Rattle.program.specs.inner.Held.{addedAtom}
 use Rattle.copies.specs.inner.Bodies.{bodyBy}
 
 -- The literal v or -v.
@@ -33,21 +35,33 @@ flipped vars plain x = map (λ b. negated (literalBy vars plain b)) (listed x)
 unfoldable pub flippedWords : List ℕ → Bool → ℕ → List ℤ
 flippedWords vars plain x = map signed (flipped vars plain x)
 
+-- The literal of an added atom, where there is one: its last copy, negated.
+unfoldable pub addedLiterals : ℕ → List Literal
+addedLiterals added = map (λ b. negative (last b)) (addedAtom added)
+
+-- The words of the clause of -d and it.
+unfoldable pub addedPairWords : ℕ → ℕ → List ℤ
+addedPairWords d added = signedWords (map (λ l. negative d ∷ l ∷ []) (addedLiterals added))
+
+-- The word of its negation.
+unfoldable pub addedFlippedWords : ℕ → List ℤ
+addedFlippedWords added = map signed (map negated (addedLiterals added))
+
 -- The clauses of -d and one literal each, of a body.
 unfoldable pub bodyPairs : ℕ → Body → List Clause
 bodyPairs d b = map (λ l. negative d ∷ l ∷ []) (literals b)
 
--- Their words, of the body of two sets.
-unfoldable pub bodyPairsWords : List ℕ → ℕ → ℕ → ℕ → List ℤ
-bodyPairsWords vars d pos neg = signedWords (bodyPairs d (bodyBy vars pos neg))
+-- Their words, of the body of two sets and an added atom.
+unfoldable pub bodyPairsWords : List ℕ → ℕ → ℕ → ℕ → ℕ → List ℤ
+bodyPairsWords vars d pos neg added = signedWords (bodyPairs d (bodyBy vars pos neg added))
 
 -- The words of the clause of its negated literals.
-unfoldable pub backWords : List ℕ → ℕ → ℕ → List ℤ
-backWords vars pos neg = clauseWords (constraintClause (bodyBy vars pos neg))
+unfoldable pub backWords : List ℕ → ℕ → ℕ → ℕ → List ℤ
+backWords vars pos neg added = clauseWords (constraintClause (bodyBy vars pos neg added))
 
--- The words of the clauses of the rule of two sets, with the variable d, for h.
-unfoldable pub ruleWords : List ℕ → ℕ → ℕ → ℕ → ℕ → List ℤ
-ruleWords vars h d pos neg = signedWords (ruleClauses h d (bodyBy vars pos neg))
+-- The words of the clauses of the rule of two sets and an added atom, with the variable d, for h.
+unfoldable pub ruleWords : List ℕ → ℕ → ℕ → ℕ → ℕ → ℕ → List ℤ
+ruleWords vars h d pos neg added = signedWords (ruleClauses h d (bodyBy vars pos neg added))
 
 -- The variables are below 2^31.
 pub record SmallVariables (vars : List ℕ) : Type 0 where

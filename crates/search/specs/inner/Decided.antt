@@ -1,11 +1,11 @@
 -- Counting by decisions: some atoms are decided to be in, some to be out. The rules of a count may be marked free: a free rule
--- applies only in states that hold its head. In the base no rule is free.
-use mathlib.Core.Bool.{Bool, false, not, _&&_, _||_, Bool·beq}
+-- applies only in states that hold its head. Choice rules are free.
+use mathlib.Core.Bool.{Bool, not, _&&_, _||_, Bool·beq}
 use mathlib.Core.List.{List, map}
 use Prim.Native.Nat.{ℕ}
 use lib.ListN.{length}
 use Rattle.lists.specs.Lists.{all, filter, range}
-use Rattle.asp.specs.Program.{Body, Rule, Program, State, outside, holds}
+use Rattle.asp.specs.Program.{Body, Rule, State, outside, holds}
 use Rattle.asp.specs.LeastModel.{Definite, leastModel}
 use Rattle.asp.specs.StableModel.{definite}
 use Rattle.asp.specs.Count.{states}
@@ -14,10 +14,6 @@ use Rattle.asp.specs.Count.{states}
 pub record CountRule : Type 0 where
   pub rule : Rule
   pub free : Bool
-
--- The rules of a program, none of them free.
-unfoldable pub countRules : Program → List CountRule
-countRules P = map (λ r. record { rule = r; free = false }) (P .rules)
 
 -- The definite rules of those that pass a test.
 abbrev pub definites : (CountRule → Bool) → List CountRule → List Definite

@@ -1,12 +1,13 @@
 -- What is known of a sheet whose records have passed, and a walk over them.
 use mathlib.Core.Bool.{true}
-use mathlib.Core.List.{List, _∷_}
+use mathlib.Core.List.{List, _∷_, List·Memᴰ}
 use mathlib.Core.Path.{_≡_}
 use Prim.Native.Nat.{ℕ, _-_, _≤_, _<_}
 use lib.ListN.{length}
+use Rattle.asp.specs.Program.{bodyBelow}
 use Rattle.sheet.specs.Questions.{ask, _then_}
-use Rattle.sheet.specs.Format.{size, positives, end, atomsByte, recordsByte, opens, measured, limited, kindPasses, listsFit, recordsQuestions}
-use Rattle.sheet.specs.Sheet.{recordAt, recordsFrom}
+use Rattle.sheet.specs.Format.{size, positives, end, atomsByte, recordsByte, opens, measured, limited, kindFits, kindPasses, listsFit, recordsQuestions}
+use Rattle.sheet.specs.Sheet.{Record, recordAt, recordsFrom}
 use Rattle.sheet.specs.declared.Limits.{Limits}
 
 -- Questions 1 to 6.
@@ -37,3 +38,12 @@ pub record Stepped (s : List ℕ) (n left at r : ℕ) : Type 0 where
   pub known : Known s n at
   pub rest : Walk s n (left - 1) r
   pub list : recordsFrom left s at ≡ recordAt s at ∷ recordsFrom (left - 1) s r
+
+-- The record has passed questions 5 and 6: it names atoms below n alone.
+pub record Sound (n : ℕ) (r : Record) : Type 0 where
+  pub kinds : kindFits n (r .kind) (r .head) ≡ true
+  pub atoms : bodyBelow n (r .body) ≡ true
+
+-- So have all of the records.
+abbrev pub AllSound : ℕ → List Record → Type 0
+AllSound n rs = (r : Record) → List·Memᴰ r rs → Sound n r

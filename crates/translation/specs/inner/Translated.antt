@@ -1,30 +1,16 @@
--- What making a program of a table of records promises.
-use mathlib.Core.Bool.{Bool, true, cond}
-use mathlib.Core.List.{List, map, _++_}
+-- What making a program of records promises.
+use mathlib.Core.Bool.{cond}
+use mathlib.Core.List.{List, [], _∷_, map, _++_}
 use mathlib.Core.Path.{_≡_}
-use Prim.Native.Nat.{ℕ, _+_, _≤_, _<_}
+use Prim.Native.Nat.{ℕ, _+_, _≤_}
 use lib.Dec.{eqb}
-use lib.ListN.{length, set}
+use lib.ListN.{length}
 use Rattle.lists.specs.Lists.{filter}
 use Rattle.asp.specs.Program.{Rule}
-use Rattle.sheet.specs.Sheet.{Record, programOf}
+use Rattle.bits.specs.inner.Visited.{listed}
+use Rattle.sheet.specs.Sheet.{Record, ruleIn, adding, choices, programOf}
 use Rattle.program.specs.declared.ProgramTable.{ProgramTable}
-use Rattle.program.specs.inner.Held.{rulesAt, programIn}
-use Rattle.reader.specs.inner.Tabled.{recordsAt}
-
--- The first `count` records of four lists.
-pub record Records : Type 0 where
-  pub count : ℕ
-  pub kinds : List ℕ
-  pub heads : List ℕ
-  pub pos : List ℕ
-  pub neg : List ℕ
-
-abbrev pub table : ℕ → List ℕ → List ℕ → List ℕ → List ℕ → Records
-table m ks hs ps ns = record { count = m; kinds = ks; heads = hs; pos = ps; neg = ns }
-
-abbrev pub recordsIn : Records → List Record
-recordsIn t = recordsAt (t .kinds) (t .heads) (t .pos) (t .neg) 0 (t .count)
+use Rattle.program.specs.inner.Held.{addedAtom, rulesAt, programIn}
 
 -- The first k entries of a table of rules and constraints.
 pub record Entries : Type 0 where
@@ -32,49 +18,42 @@ pub record Entries : Type 0 where
   pub heads : List ℕ
   pub pos : List ℕ
   pub neg : List ℕ
+  pub added : List ℕ
 
-abbrev pub entries : ℕ → List ℕ → List ℕ → List ℕ → Entries
-entries k hs ps ns = record { k = k; heads = hs; pos = ps; neg = ns }
+abbrev pub entries : ℕ → List ℕ → List ℕ → List ℕ → List ℕ → Entries
+entries k hs ps ns ads = record { k = k; heads = hs; pos = ps; neg = ns; added = ads }
 
--- The heads and bodies of the records of a kind.
-unfoldable pub ofKind : ℕ → List Record → List Rule
-ofKind kind rs = map (λ r. record { head = r .head; body = r .body }) (filter (λ r. eqb (r .kind) kind) rs)
-
--- The heads and bodies of the entries.
+-- Their heads and bodies.
 unfoldable pub entriesIn : Entries → List Rule
-entriesIn e = rulesAt (e .heads) (e .pos) (e .neg) 0 (e .k)
+entriesIn e = rulesAt (e .heads) (e .pos) (e .neg) (e .added) 0 (e .k)
 
--- Arrays of 128, with room for an entry at k where b holds.
-pub record Long (k : ℕ) (b : Bool) (hs ps ns : List ℕ) : Type 0 where
-  pub heads : length hs ≡ 128
-  pub pos : length ps ≡ 128
-  pub neg : length ns ≡ 128
-  pub room : b ≡ true → k < 128
+-- Arrays of 192 with room for so many entries more.
+pub record Room (more : ℕ) (e : Entries) : Type 0 where
+  pub heads : length (e .heads) ≡ 192
+  pub pos : length (e .pos) ≡ 192
+  pub neg : length (e .neg) ≡ 192
+  pub added : length (e .added) ≡ 192
+  pub room : e .k + more ≤ 192
 
--- The entry stands at k where b holds, and otherwise nothing has changed.
-pub record StoredIf (k : ℕ) (b : Bool) (head p q : ℕ) (hs ps ns hs′ ps′ ns′ : List ℕ) (r : ℕ) : Type 0 where
-  pub heads : hs′ ≡ cond b (set hs k head) hs
-  pub pos : ps′ ≡ cond b (set ps k p) ps
-  pub neg : ns′ ≡ cond b (set ns k q) ns
-  pub next : r ≡ cond b (k + 1) k
-
--- The entries, with room for more.
-pub record Room (e : Entries) (more : List Rule) : Type 0 where
-  pub heads : length (e .heads) ≡ 128
-  pub pos : length (e .pos) ≡ 128
-  pub neg : length (e .neg) ≡ 128
-  pub room : e .k + length more ≤ 128
-
--- These with more behind them.
+-- The entries e, with more behind them.
 pub record Appended (e : Entries) (more : List Rule) (r : Entries) : Type 0 where
-  pub heads : length (r .heads) ≡ 128
-  pub pos : length (r .pos) ≡ 128
-  pub neg : length (r .neg) ≡ 128
+  pub long : Room 0 r
   pub is : entriesIn r ≡ entriesIn e ++ more
   pub size : r .k ≡ e .k + length more
 
--- The table holds the program of n atoms of the records.
+-- What is entered for the atom a, which is added to the negative ones.
+pub record AddedTo (neg a r : ℕ) : Type 0 where
+  pub is : listed neg ++ addedAtom r ≡ adding a (listed neg)
+
+-- A constraint stands in the table as a rule whose head means nothing.
+unfoldable pub constraintOf : Record → List Rule
+constraintOf r = cond (eqb (r .kind) 1) (ruleIn r ∷ []) []
+
+unfoldable pub constraintsFrom : List Record → List Rule
+constraintsFrom rs = map ruleIn (filter (λ r. eqb (r .kind) 1) rs)
+
+-- The table holds the program of the records over n written atoms.
 pub record Translated (n : ℕ) (rs : List Record) (r : ProgramTable) : Type 0 where
-  pub atoms : r .atoms ≡ n
-  pub few : r .rules + r .constraints ≤ 128
+  pub atoms : r .atoms ≡ n + choices rs
+  pub few : r .rules + r .constraints ≤ 192
   pub is : programIn r ≡ programOf n rs

@@ -1,5 +1,5 @@
 -- `unfolded_output::put_body` meets its contract, one law for each way through it.
-use Rattle.copies.specs.inner.Bodies.{bodyAtoms}
+use Rattle.copies.specs.inner.Bodies.{negativeAtoms, bodyAtoms}
 use Rattle.unfolded_output.proofs.Body.{body-wrote}
 use borrow.Author.Needs.{needs}
 use Rattle.unfolded_output.proofs.put_body.Statement.{statement}
@@ -11,19 +11,23 @@ size-requires c κs = search needs
 put-word-requires : tie.Need-put-word-requires
 put-word-requires c κs = search needs
 
-size-requires-2 : tie.Need-size-requires-2
-size-requires-2 c κs = search needs
+negative-atoms-requires : tie.Need-negative-atoms-requires
+negative-atoms-requires c κs = search needs
 
 put-word-requires-2 : tie.Need-put-word-requires-2
 put-word-requires-2 c κs = search needs
 
 put-set-requires : tie.Need-put-set-requires
-unfolding bodyAtoms
+unfolding bodyAtoms negativeAtoms
 put-set-requires c κs = search needs
 
 put-set-requires-2 : tie.Need-put-set-requires-2
-unfolding bodyAtoms
+unfolding bodyAtoms negativeAtoms
 put-set-requires-2 c κs = search needs
+
+put-added-requires : tie.Need-put-added-requires
+unfolding bodyAtoms negativeAtoms
+put-added-requires c κs = search needs
 
 same-length : tie.Need-same-length
 same-length c = search needs
@@ -37,9 +41,10 @@ put-body-spec =
     (tie.spec
     size-requires
     put-word-requires
-    size-requires-2
+    negative-atoms-requires
     put-word-requires-2
     put-set-requires
     put-set-requires-2
+    put-added-requires
     same-length
     returns)

@@ -36,7 +36,7 @@ overlay-requires c κs = c .before .before .before .before .before .before .befo
 
 put-copy-requires : tie.Need-put-copy-requires Inv-loop μ-loop
 put-copy-requires c κs =
-    let laid = c .before .before .before .before .before in
+    let laid = c .before .before .before .before .before .before in
     let kept = laid .before .before .before .before in
     let made = kept .before .before .before .before in
     let test = made .before .before in
@@ -53,7 +53,7 @@ with-requires : tie.Need-with-requires Inv-loop μ-loop
 with-requires c κs = search needs
 
 add-i : tie.Need-add-i Inv-loop μ-loop
-add-i c = let test = c .before .before .before .before .before .before .before .before .before .before .before .before .before .before .before .before .before .before .before in let start = test .before .before .before .before .before .before in omega (arith, test .loop-test .taken, start .pre .0 .short)
+add-i c = let test = c .before .before .before .before .before .before .before .before .before .before .before .before .before .before .before .before .before .before .before .before in let start = test .before .before .before .before .before .before in omega (arith, test .loop-test .taken, start .pre .0 .short)
 
 loop-less : tie.Need-loop-less Inv-loop μ-loop
 loop-less c = search needs
@@ -61,7 +61,7 @@ loop-less c = search needs
 loop-again : tie.Need-loop-again Inv-loop μ-loop
 loop-again c =
     let put = c .before .before .before in
-    let laid = put .before .before .before .before .before .before in
+    let laid = put .before .before .before .before .before .before .before in
     let kept = laid .before .before .before .before in
     let made = kept .before .before .before .before in
     let test = made .before .before in

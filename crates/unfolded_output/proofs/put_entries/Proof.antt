@@ -6,10 +6,10 @@ use Rattle.unfolded_output.proofs.put_entries.Statement.{statement}
 use Rattle.unfolded_output.proofs.put_entries.Tie as tie
 
 abbrev Inv-loop : tie.InvT-loop
-Inv-loop out₀ at from to pos neg lasts next₀ j₀ out next j = EntriesLeft pos neg lasts out₀ at from to out next j
+Inv-loop out₀ at from to pos neg added lasts next₀ j₀ out next j = EntriesLeft pos neg added lasts out₀ at from to out next j
 
 abbrev μ-loop : tie.MeasureT-loop
-μ-loop out₀ at from to pos neg lasts next₀ j₀ out next j = to - j
+μ-loop out₀ at from to pos neg added lasts next₀ j₀ out next j = to - j
 
 loop-holds : tie.Need-loop-holds Inv-loop μ-loop
 loop-holds c = search (needs, entries-start)
@@ -25,6 +25,9 @@ mul-put-body-2 c = search needs
 
 element-copy-out-put-body-2 : tie.Need-element-copy-out-put-body-2 Inv-loop μ-loop
 element-copy-out-put-body-2 c = search needs
+
+element-copy-out-put-body-3 : tie.Need-element-copy-out-put-body-3 Inv-loop μ-loop
+element-copy-out-put-body-3 c = search needs
 
 put-body-requires : tie.Need-put-body-requires Inv-loop μ-loop
 put-body-requires c κs = search (needs, entries-room)
@@ -55,6 +58,7 @@ put-entries-spec =
     element-copy-out-put-body
     mul-put-body-2
     element-copy-out-put-body-2
+    element-copy-out-put-body-3
     put-body-requires
     add-j
     loop-less

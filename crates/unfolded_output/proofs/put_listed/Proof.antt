@@ -6,10 +6,10 @@ use Rattle.unfolded_output.proofs.put_listed.Statement.{statement}
 use Rattle.unfolded_output.proofs.put_listed.Tie as tie
 
 abbrev Inv-loop : tie.InvT-loop
-Inv-loop out₀ at entries k pos neg vars lasts next₀ j₀ out next j = ListedLeft pos neg vars entries out₀ at k out next j
+Inv-loop out₀ at entries k pos neg added vars lasts next₀ j₀ out next j = ListedLeft pos neg added vars entries out₀ at k out next j
 
 abbrev μ-loop : tie.MeasureT-loop
-μ-loop out₀ at entries k pos neg vars lasts next₀ j₀ out next j = k - j
+μ-loop out₀ at entries k pos neg added vars lasts next₀ j₀ out next j = k - j
 
 loop-holds : tie.Need-loop-holds Inv-loop μ-loop
 loop-holds c = search (needs, listed-start)
@@ -28,6 +28,9 @@ mul-put-body-2 c = search needs
 
 element-copy-out-put-body-2 : tie.Need-element-copy-out-put-body-2 Inv-loop μ-loop
 element-copy-out-put-body-2 c = search needs
+
+element-copy-out-put-body-3 : tie.Need-element-copy-out-put-body-3 Inv-loop μ-loop
+element-copy-out-put-body-3 c = search needs
 
 put-body-requires : tie.Need-put-body-requires Inv-loop μ-loop
 put-body-requires c κs = search (needs, listed-room)
@@ -59,6 +62,7 @@ put-listed-spec =
     element-copy-out-put-body
     mul-put-body-2
     element-copy-out-put-body-2
+    element-copy-out-put-body-3
     put-body-requires
     add-j
     loop-less

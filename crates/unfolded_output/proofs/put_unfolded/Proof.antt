@@ -4,6 +4,9 @@ use borrow.Author.Needs.{needs}
 use Rattle.unfolded_output.proofs.put_unfolded.Statement.{statement}
 use Rattle.unfolded_output.proofs.put_unfolded.Tie as tie
 
+add-to : tie.Need-add-to
+add-to c = search needs
+
 last-copies-requires : tie.Need-last-copies-requires
 last-copies-requires c κs = search needs
 
@@ -25,9 +28,6 @@ cast-put-word-2 c = search needs
 put-word-requires-2 : tie.Need-put-word-requires-2
 put-word-requires-2 c κs = search (needs, room-behind)
 
-add-put-entries : tie.Need-add-put-entries
-add-put-entries c = search needs
-
 put-entries-requires : tie.Need-put-entries-requires
 put-entries-requires c κs = (search needs, search needs, search (needs, room-constraints))
 
@@ -41,6 +41,7 @@ pub put-unfolded-spec : {M : Type 1} → statement M
 put-unfolded-spec =
     tie.close
     (tie.spec
+    add-to
     last-copies-requires
     sub-count
     cast-put-word
@@ -48,7 +49,6 @@ put-unfolded-spec =
     put-copies-requires
     cast-put-word-2
     put-word-requires-2
-    add-put-entries
     put-entries-requires
     same-length
     returns)

@@ -5,8 +5,9 @@ use Prim.Native.Nat.{ℕ, _+_, _-_}
 use lib.ListN.{length, getD}
 use Rattle.lists.specs.Lists.{range}
 use Rattle.asp.specs.Program.{Body}
-use Rattle.unfolding.specs.Unfolded.{Unfolded, bodyWords, copyWords}
+use Rattle.unfolding.specs.Unfolded.{Unfolded, last, bodyWords, copyWords}
 use Rattle.bits.specs.inner.Visited.{listed}
+use Rattle.program.specs.inner.Held.{addedAtom}
 use Rattle.writer.specs.inner.Wrote.{Wrote}
 use Rattle.copies.specs.inner.Bodies.{bodyBy, entryBody, bodiesBy}
 use Rattle.copies.specs.declared.KeptRules.{KeptRules}
@@ -15,21 +16,21 @@ use Rattle.copies.specs.declared.KeptRules.{KeptRules}
 unfoldable pub bodiesWords : List Body → List ℕ
 bodiesWords bs = flatMap bodyWords bs
 
--- The words of the body of two sets.
-unfoldable pub setBodyWords : List ℕ → ℕ → ℕ → List ℕ
-setBodyWords vars pos neg = bodyWords (bodyBy vars pos neg)
+-- The words of the body of two sets and an added atom.
+unfoldable pub setBodyWords : List ℕ → ℕ → ℕ → ℕ → List ℕ
+setBodyWords vars pos neg added = bodyWords (bodyBy vars pos neg added)
 
 -- The words of the bodies of the first k entries that are listed.
-unfoldable pub listedWords : List ℕ → List ℕ → List ℕ → List ℕ → ℕ → List ℕ
-listedWords pos neg vars entries k = bodiesWords (bodiesBy pos neg vars entries k)
+unfoldable pub listedWords : List ℕ → List ℕ → List ℕ → List ℕ → List ℕ → ℕ → List ℕ
+listedWords pos neg added vars entries k = bodiesWords (bodiesBy pos neg added vars entries k)
 
 -- The words of the bodies of the entries from .. to - 1.
-unfoldable pub entriesWords : List ℕ → List ℕ → List ℕ → ℕ → ℕ → List ℕ
-entriesWords pos neg vars from to = bodiesWords (map (entryBody pos neg vars) (range from (to - from)))
+unfoldable pub entriesWords : List ℕ → List ℕ → List ℕ → List ℕ → ℕ → ℕ → List ℕ
+entriesWords pos neg added vars from to = bodiesWords (map (entryBody pos neg added vars) (range from (to - from)))
 
 -- The words of a copy: its variable, the number of its rules, and those.
-unfoldable pub keptWords : List ℕ → List ℕ → List ℕ → ℕ → KeptRules → List ℕ
-keptWords pos neg vars var kept = var ∷ kept .rules ∷ listedWords pos neg vars (kept .entries) (kept .rules)
+unfoldable pub keptWords : List ℕ → List ℕ → List ℕ → List ℕ → ℕ → KeptRules → List ℕ
+keptWords pos neg added vars var kept = var ∷ kept .rules ∷ listedWords pos neg added vars (kept .entries) (kept .rules)
 
 -- The words of all copies.
 unfoldable pub copiesWords : Unfolded → List ℕ
@@ -39,3 +40,8 @@ copiesWords U = flatMap copyWords (U .copies)
 pub record SetWrote (old : List ℕ) (at : ℕ) (vars : List ℕ) (x : ℕ) (new : List ℕ) (next : ℕ) : Type 0 where
   pub wrote : Wrote old at (map (λ b. getD vars b 0) (listed x)) new next
   pub far : next ≡ at + length (listed x)
+
+-- The last copy of the added atom is written, where there is one.
+pub record AddedWrote (old : List ℕ) (at added : ℕ) (new : List ℕ) (next : ℕ) : Type 0 where
+  pub wrote : Wrote old at (map last (addedAtom added)) new next
+  pub far : next ≡ at + length (addedAtom added)

@@ -5,7 +5,7 @@ use crate::sheets::families;
 use crate::timing::{median, time_in_turns, time_once};
 use rulesheet_tests::binding;
 use rulesheet_tests::report::Tally;
-use rulesheet_tests::sheet::{Record, Sheet, RULE};
+use rulesheet_tests::sheet::{Record, Sheet, CHOICE, CONSTRAINT};
 use std::fmt::Write;
 use std::path::Path;
 use std::process::{self, Command};
@@ -118,12 +118,17 @@ fn print_row(family: &[Case]) {
     );
 }
 
-/// A sheet in the format of lparse: atom a is a + 2, and 1 is the head of constraints, which must be false.
+/// A sheet in the format of lparse: atom a is a + 2, and 1 is the head of constraints, which must be false. A choice rule has
+/// type 3 and a list of heads, here of one.
 fn lparse(sheet: &Sheet) -> String {
     let mut text = String::new();
     for Record { kind, head, positives, negatives } in &sheet.records {
-        let head = if *kind == RULE { head + 2 } else { 1 };
-        write!(text, "1 {head} {} {}", positives.len() + negatives.len(), negatives.len()).unwrap();
+        let head = match *kind {
+            CONSTRAINT => "1 1".to_string(),
+            CHOICE => format!("3 1 {}", head + 2),
+            _ => format!("1 {}", head + 2),
+        };
+        write!(text, "{head} {} {}", positives.len() + negatives.len(), negatives.len()).unwrap();
         for atom in negatives.iter().chain(positives) {
             write!(text, " {}", atom + 2).unwrap();
         }

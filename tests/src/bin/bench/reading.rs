@@ -1,7 +1,7 @@
 //! The operations that read a sheet, beside one plain pass over its bytes.
 
 use crate::check;
-use crate::sheets::{complete, full, sheet_a};
+use crate::sheets::{complete, free_heads, full, sheet_a};
 use crate::timing::{columns, time_in_turns};
 use rulesheet_tests::binding;
 use rulesheet_tests::reference::answer;
@@ -38,6 +38,7 @@ fn rows() -> Vec<Row> {
         Row::new("Sheet A", sheet_a()),
         Row::new("64 atoms, one fact", Sheet::new(64, vec![rule(0, &[], &[])])),
         Row::new("6 complete components of 10", complete(6, 10)),
+        Row::new("32 free heads", free_heads(32)),
     ];
     rows.extend(full);
     rows

@@ -1,8 +1,8 @@
 //! The sheets that are measured.
 
-use rulesheet_tests::inputs::{add_choices, cycle, Style};
+use rulesheet_tests::inputs::{add_pairs, cycle, Style};
 use rulesheet_tests::random::Random;
-use rulesheet_tests::sheet::{rule, Record, Sheet};
+use rulesheet_tests::sheet::{choice, constraint, rule, Record, Sheet, CHOICE};
 
 const SEED: u64 = 1;
 
@@ -24,6 +24,13 @@ pub fn complete(components: u8, size: u8) -> Sheet {
 pub fn full(atoms: u8, heads: u8, rules: u8) -> Sheet {
     let all: Vec<u8> = (0..atoms).collect();
     Sheet::new(atoms, (0..rules).map(|place| rule(place % heads, &all, &all)).collect())
+}
+
+/// The same with eight atoms, where 56 of the 128 records are choice rules: 64 atoms with the fresh ones.
+pub fn many_choices() -> Sheet {
+    let mut sheet = full(8, 8, 128);
+    sheet.records.iter_mut().take(56).for_each(|record| record.kind = CHOICE);
+    sheet
 }
 
 /// Six complete components of ten atoms: each rule has every atom that comes before its component, those of the
@@ -63,13 +70,32 @@ pub fn families() -> Vec<(&'static str, Vec<Sheet>)> {
         ("last of 16 decides, others heavier", vec![Sheet::new(64, twice(last_decides_light()))]),
         ("last of 16 decides, others heavier, 68 idle rules", vec![Sheet::new(64, last_decides_light_idle())]),
         ("worst found", vec![Sheet::new(64, hard())]),
+        ("8 free heads", vec![free_heads(8)]),
+        ("12 free heads", vec![free_heads(12)]),
+        ("16 free heads", vec![free_heads(16)]),
+        ("16 free heads, constraints leave one state", vec![one_left()]),
     ]
+}
+
+/// Atoms that may be in or out, whatever the others are.
+pub fn free_heads(number: u8) -> Sheet {
+    Sheet::new(number, (0..number).map(|head| choice(head, &[], &[])).collect())
+}
+
+/// Sixteen of them, of which the first is in, and each other just when the one before it is out.
+fn one_left() -> Sheet {
+    let mut sheet = free_heads(16);
+    sheet.records.push(constraint(&[], &[0]));
+    sheet
+        .records
+        .extend((1..16).flat_map(|atom| [constraint(&[atom - 1, atom], &[]), constraint(&[], &[atom - 1, atom])]));
+    sheet
 }
 
 fn random_sheet(random: &mut Random) -> Sheet {
     let style = Style { atoms: 64, records: 120, component: 10, negated: 10, body: 4 };
     let mut sheet = style.sheet(random);
-    add_choices(random, &mut sheet);
+    add_pairs(random, &mut sheet);
     sheet
 }
 

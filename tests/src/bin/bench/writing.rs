@@ -1,10 +1,10 @@
 //! The operations that write words, beside a fill of the same buffer.
 
 use crate::check;
-use crate::sheets::{complete, full, late, sheet_a, six_components};
+use crate::sheets::{complete, full, late, many_choices, sheet_a, six_components};
 use crate::timing::{columns, time_in_turns};
 use rulesheet_tests::binding;
-use rulesheet_tests::reference::{unfold, Graph, Unfolded};
+use rulesheet_tests::reference::{expanded, unfold, Graph, Unfolded};
 use rulesheet_tests::report::Tally;
 use rulesheet_tests::sheet::{sequence_bytes, Sheet};
 use std::hint::black_box;
@@ -43,8 +43,13 @@ fn inputs() -> Vec<Input> {
         eight(128, 640),
         default("6 components of 10, short rules", complete(6, 10)),
         default("6 components of 10, long rules", six_components()),
+        Input {
+            name: "1 component of 8, 56 choice rules",
+            sheet: many_choices(),
+            entries: [(0..8).cycle().take(584).collect(), (8..64).collect::<Vec<u8>>()].concat(),
+        },
         Input { name: "nearly all dropped", sheet: late(), entries: [zeros(576), others.clone(), zeros(1)].concat() },
-        // No legal input gives more words of clauses.
+        // No legal input gives more words, with choice rules or without.
         Input { name: "the most words", sheet: full(64, 1, 128), entries: [zeros(577), others].concat() },
     ]
 }
@@ -113,9 +118,9 @@ struct Row<T> {
 }
 
 impl<T> Row<T> {
-    /// Rules, entries, words.
+    /// Rules, two for each choice rule, entries, words.
     fn sizes(&self) -> [usize; 3] {
-        [self.input.sheet.rules().count(), self.input.entries.len(), self.out.len()]
+        [expanded(&self.input.sheet).rules().count(), self.input.entries.len(), self.out.len()]
     }
 
     fn print(&self) {

@@ -1,8 +1,9 @@
-//! Cases with the reference's answers, and the last level at which each answer stands.
+//! Cases with the reference's answers, and the levels at which each answer stands.
 
-use rulesheet_tests::reference::{self, read_sequence, unfold};
+use rulesheet_tests::reference::{self, read_sequence, read_sheet, unfold};
 use rulesheet_tests::report::Statistics;
-use rulesheet_tests::service::{Answer, Argument, Call};
+use rulesheet_tests::service::{Answer, Argument, Call, Operation};
+use rulesheet_tests::sheet::{set_length, CHOICE};
 use rulesheet_tests::vectors;
 use std::collections::{BTreeMap, HashSet};
 use std::{fs, path::Path};
@@ -18,15 +19,23 @@ pub struct Cases {
 }
 
 impl Cases {
-    /// Adds a case, once, and hands its answer back.
+    /// Adds a case, once, and hands its answer back. Of reading, also the refusal that W1 took away.
     pub fn add(&mut self, call: Call) -> Answer {
         let answer = reference::answer(&call);
-        let line = vectors::format(until(&call, &answer), &call, &answer);
+        let from = from(&call);
+        if from == 1 && call.operation == Operation::Read {
+            self.add_line(0, 0, &call, &Answer::Refused(5));
+        }
+        self.add_line(from, until(&call, &answer), &call, &answer);
+        answer
+    }
+
+    fn add_line(&mut self, from: u32, until: u32, call: &Call, answer: &Answer) {
+        let line = vectors::format(from, until, call, answer);
         if self.seen.insert(line.clone()) {
             self.lines.push(line);
-            self.statistics.add(call.operation, &answer);
+            self.statistics.add(call.operation, answer);
         }
-        answer
     }
 
     /// Writes the file and prints how often each kind of answer came up.
@@ -36,13 +45,50 @@ impl Cases {
     }
 }
 
+/// The first level at which the answer stands: W1 admits choice rules, where there was a refusal by 5.
+fn from(call: &Call) -> u32 {
+    match call.operation {
+        Operation::Program => from(&reference::program_call(&call.sheet)),
+        _ => u32::from(reaches_choice(&call.sheet)),
+    }
+}
+
+/// Whether questions 1 to 3 pass, and record by record 4, 5 and 6 too, up to a record of kind 2 with an atom as its head:
+/// the records before it are a sheet that passes, and it passes 4.
+fn reaches_choice(bytes: &[u8]) -> bool {
+    let mut rest = match bytes {
+        [1, high, low, 0..=64, 0..=128, rest @ ..] if usize::from(u16::from_be_bytes([*high, *low])) == bytes.len() => {
+            rest
+        }
+        _ => return false,
+    };
+    for before in 0..bytes[4] {
+        let Some((&length, record)) = rest.split_first() else { return false };
+        let complete = 3 <= length && usize::from(length) <= record.len() && record[2] <= length - 3;
+        if complete && record[0] == CHOICE {
+            return record[1] < bytes[3] && passes(bytes, before, bytes.len() - rest.len());
+        }
+        if !complete {
+            return false;
+        }
+        rest = &record[usize::from(length)..];
+    }
+    false
+}
+
+/// Whether the sheet that ends after so many records and bytes passes questions 1 to 6.
+fn passes(bytes: &[u8], records: u8, length: usize) -> bool {
+    let mut bytes = bytes[..length].to_vec();
+    bytes[4] = records;
+    set_length(&mut bytes);
+    read_sheet(&bytes).is_ok()
+}
+
 /// The last level at which the answer stands.
 fn until(call: &Call, answer: &Answer) -> u32 {
     match answer {
         // W8 admits version 2 with at least 13 bytes.
         Answer::Refused(1) if call.sheet.len() >= 13 && call.sheet[0] == 2 => 7,
-        // W1 admits kind 2.
-        Answer::Refused(5) if refused_for_choice(&call.sheet) => 0,
         // W10 judges the form of the sequence before the components.
         Answer::Refused(7) if call.operation.takes(Argument::Sequence) && malformed(call) => 9,
         // W2 drops further rules.
@@ -57,23 +103,9 @@ fn until(call: &Call, answer: &Answer) -> u32 {
     }
 }
 
-/// Whether the first record that fails question 5 is a choice rule: of kind 2, with an atom as its head.
-fn refused_for_choice(sheet: &[u8]) -> bool {
-    let atoms = sheet[3];
-    let mut rest = &sheet[5..];
-    while let [length, kind, head, ..] = *rest {
-        match kind {
-            0 if head < atoms => {}
-            1 if head == 0 => {}
-            _ => return kind == 2 && head < atoms,
-        }
-        rest = &rest[1 + usize::from(length)..];
-    }
-    false
-}
-
 fn malformed(call: &Call) -> bool {
-    read_sequence(&call.sequence, call.sheet[3]).is_err()
+    let atoms = read_sheet(&call.sheet).expect("7 is asked of sheets that pass 1 to 6 and 13").all_atoms();
+    read_sequence(&call.sequence, atoms as u8).is_err()
 }
 
 /// Whether some kept rule reads a copy of its own component that kept no rule.

@@ -1,16 +1,17 @@
 //! Cases of counting answer sets.
 
 use crate::cases::Cases;
-use rulesheet_tests::inputs::{connected, cycle, Shape, Style};
+use crate::choices::{self, free};
+use rulesheet_tests::inputs::{add_choices, connected, cycle, with_decided, Shape, Style};
 use rulesheet_tests::random::Random;
 use rulesheet_tests::service::{Call, Operation};
-use rulesheet_tests::sheet::{constraint, rule, Record, Sheet};
+use rulesheet_tests::sheet::{choice, constraint, rule, Record, Sheet};
 
 pub fn cases() -> Cases {
     let mut cases = Cases::default();
     let mut random = Random::new(4);
     let families =
-        [small_sheets(), negative_loops(), positive_loops(), choices(), sixteen_negated(&mut random), refused()];
+        [small_sheets(), negative_loops(), positive_loops(), alternatives(), sixteen_negated(&mut random), refused()];
     for sheet in families.concat() {
         count(&mut cases, &sheet);
     }
@@ -18,6 +19,11 @@ pub fn cases() -> Cases {
     for bytes in [vec![], vec![1, 0, 4, 0], vec![1, 0, 6, 0, 0], vec![1, 0, 5, 0, 129], vec![1, 0, 6, 0, 0, 0]] {
         cases.add(Call::new(Operation::Count, &bytes));
     }
+    let families = [choices::small(), choices::most_atoms(), free_heads(), sixteen_decided()];
+    for sheet in families.concat() {
+        count(&mut cases, &sheet);
+    }
+    random_choices(&mut cases, &mut random);
     cases
 }
 
@@ -130,7 +136,7 @@ fn positive_loops() -> Vec<Sheet> {
     sheets
 }
 
-fn choices() -> Vec<Sheet> {
+fn alternatives() -> Vec<Sheet> {
     let mut sheets = Vec::new();
     for pairs in 1..=8u8 {
         let records: Vec<Record> = (0..pairs).flat_map(|i| negative_loop(&[2 * i, 2 * i + 1])).collect();
@@ -184,6 +190,87 @@ fn sixteen_negated(random: &mut Random) -> Vec<Sheet> {
         sheets.push(style.sheet(random));
     }
     sheets
+}
+
+/// Up to sixteen free heads, with rules and constraints on them.
+fn free_heads() -> Vec<Sheet> {
+    let mut sheets = Vec::new();
+    for heads in [2, 3, 5, 8, 12, 16] {
+        let others = upto(heads - 1);
+        let last = heads - 1;
+        sheets.extend([
+            Sheet::new(heads, free(heads)),
+            // All are in, all are out, one is in, the last hangs on the others.
+            Sheet::new(
+                heads,
+                joined(&[&free(heads), &upto(heads).iter().map(|&a| constraint(&[], &[a])).collect::<Vec<_>>()]),
+            ),
+            Sheet::new(
+                heads,
+                joined(&[&free(heads), &upto(heads).iter().map(|&a| constraint(&[a], &[])).collect::<Vec<_>>()]),
+            ),
+            Sheet::new(heads + 1, joined(&[&free(heads), &one_of(heads)])),
+            Sheet::new(heads, joined(&[&free(last), &[choice(last, &others, &[])]])),
+            Sheet::new(heads, joined(&[&free(last), &[choice(last, &[], &others), constraint(&[0], &[last])]])),
+        ]);
+        // Each may be in if the one before it is; the last closes a positive loop.
+        let links: Vec<Record> = (1..heads).map(|atom| choice(atom, &[atom - 1], &[])).collect();
+        sheets.push(Sheet::new(heads, joined(&[&free(1), &links])));
+        if heads <= 10 {
+            sheets.push(Sheet::new(heads, joined(&[&free(1), &links, &[choice(0, &[last], &[])]])));
+        }
+    }
+    sheets
+}
+
+/// Constraints that leave just one of the atoms in.
+fn one_of(atoms: u8) -> Vec<Record> {
+    let pairs = |a: u8| (a + 1..atoms).map(move |b| constraint(&[a, b], &[]));
+    let some = (0..atoms).map(|atom| rule(atoms, &[atom], &[]));
+    let mut records: Vec<Record> = some.chain([constraint(&[], &[atoms])]).collect();
+    records.extend((0..atoms).flat_map(pairs).take(128 - records.len() - usize::from(atoms)));
+    records
+}
+
+/// Question 11 at its limit with heads and negative lists of choice rules.
+fn sixteen_decided() -> Vec<Sheet> {
+    let mut sheets = Vec::new();
+    for number in 15..=18u8 {
+        let atoms = upto(number);
+        let half = number / 2;
+        sheets.extend([
+            // Heads alone; a head and a list; heads on one side and lists of both kinds on the other.
+            Sheet::new(number, free(number)),
+            Sheet::new(40, joined(&[&free(number), &[constraint(&[], &upto(40)), constraint(&upto(40), &[])]])),
+            Sheet::new(20, vec![choice(19, &[], &upto(number - 1))]),
+            Sheet::new(20, vec![choice(3, &[], &atoms)]),
+            Sheet::new(20, vec![choice(3, &[], &atoms), choice(3, &[], &[]), choice(5, &[3], &[3])]),
+            Sheet::new(20, joined(&[&free(half), &[rule(19, &[], &(half..number).collect::<Vec<_>>())]])),
+            Sheet::new(20, joined(&[&free(half), &[choice(0, &[19], &(half..number).collect::<Vec<_>>())]])),
+            // No fresh atom counts.
+            Sheet::new(20, vec![choice(0, &[], &(1..number).collect::<Vec<_>>()); 30]),
+            // A choice rule that never fires counts too.
+            Sheet::new(20, joined(&[&free(number - 1), &[choice(19, &[19], &[])]])),
+        ]);
+    }
+    sheets
+}
+
+fn random_choices(cases: &mut Cases, random: &mut Random) {
+    for _ in 0..100 {
+        count(cases, &choices::any(random, 6));
+    }
+    for _ in 0..40 {
+        count(cases, &choices::any(random, 12));
+    }
+    for _ in 0..12 {
+        let mut sheet = Style { atoms: 50, records: 90, component: 10, negated: 8, body: 3 }.sheet(random);
+        add_choices(random, &mut sheet);
+        count(cases, &sheet);
+    }
+    for number in [15, 16, 17, 17, 17, 18] {
+        count(cases, &with_decided(random, number));
+    }
 }
 
 fn refused() -> Vec<Sheet> {

@@ -1,6 +1,7 @@
 //! generate FOLDER: writes the repository's vector files from the reference.
 
 mod cases;
+mod choices;
 mod count;
 mod program;
 mod sequences;

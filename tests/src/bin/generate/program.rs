@@ -1,6 +1,7 @@
 //! Cases of the clause program.
 
 use crate::cases::Cases;
+use crate::choices;
 use rulesheet_tests::inputs::{any_sheet, damaged, Style};
 use rulesheet_tests::random::Random;
 use rulesheet_tests::reference::Graph;
@@ -17,7 +18,16 @@ pub fn cases() -> Cases {
         let sheet = Style { atoms: 6, records: 8, component: 4, negated: 6, body: 2 }.sheet(&mut random);
         let entries = mixed(&mut random, &Graph::new(&sheet));
         run(&mut cases, &[sheet.bytes(), sequence_bytes(&entries)]);
-        let sequence = any_sequence(&mut random, &Graph::new(&sheet));
+        let sequence = any_sequence(&mut random, &sheet);
+        run(&mut cases, &[sheet.bytes(), sequence.clone()]);
+        run(&mut cases, &[damaged(&mut random, &sheet), sequence]);
+    }
+    for sheet in choices::small().into_iter().step_by(3).chain(choices::most_atoms().into_iter().step_by(5)) {
+        run(&mut cases, &[sheet.bytes(), sequence_bytes(&Graph::new(&sheet).default_sequence())]);
+    }
+    for _ in 0..20 {
+        let sheet = choices::any(&mut random, 6);
+        let sequence = any_sequence(&mut random, &sheet);
         run(&mut cases, &[sheet.bytes(), sequence.clone()]);
         run(&mut cases, &[damaged(&mut random, &sheet), sequence]);
     }

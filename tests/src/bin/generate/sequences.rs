@@ -1,6 +1,7 @@
 //! Cases of testing a sequence.
 
 use crate::cases::Cases;
+use crate::choices;
 use rulesheet_tests::inputs::{connected, cycle, Shape, Style};
 use rulesheet_tests::random::Random;
 use rulesheet_tests::reference::Graph;
@@ -25,7 +26,54 @@ pub fn cases() -> Cases {
     last_entry(&mut cases, &mut random);
     refused_before(&mut cases);
     malformed_sequences(&mut cases, &mut random);
+    with_choices(&mut cases, &mut random);
     cases
+}
+
+/// Sequences that name fresh atoms, wherever they stand, and sequences that do not.
+fn with_choices(cases: &mut Cases, random: &mut Random) {
+    for sheet in choices::small() {
+        near_fresh_atoms(cases, random, &sheet);
+    }
+    for sheet in choices::most_atoms() {
+        let default = Graph::new(&sheet).default_sequence();
+        if default.len() <= MOST_ENTRIES {
+            test(cases, &sheet, &default);
+            test(cases, &sheet, &default[..default.len() - 1]);
+        }
+    }
+    for _ in 0..20 {
+        let sheet = choices::any(random, 9);
+        near_the_limit(cases, random, &sheet);
+        near_fresh_atoms(cases, random, &sheet);
+    }
+    let sheet = choices::any(random, 5);
+    for sequence in malformed(sheet.all_atoms() as u8, &Graph::new(&sheet).default_sequence()) {
+        cases.add(Call::new(Operation::Test, &sheet.bytes()).sequence(&sequence));
+    }
+}
+
+fn near_fresh_atoms(cases: &mut Cases, random: &mut Random, sheet: &Sheet) {
+    let graph = Graph::new(sheet);
+    let default = graph.default_sequence();
+    let written: Vec<u8> = default.iter().copied().filter(|&entry| entry < sheet.atoms).collect();
+    let fresh: Vec<u8> = default.iter().copied().filter(|&entry| entry >= sheet.atoms).collect();
+    let all = sheet.all_atoms() as u8;
+    for entries in [
+        default.clone(),
+        minimal(random, &graph, &default),
+        written.clone(),
+        fresh.clone(),
+        [&fresh[..], &written].concat(),
+        [&fresh[..], &written, &fresh].concat(),
+        [&written[..], &fresh[1..]].concat(),
+        [&written[..], &fresh[..fresh.len() - 1]].concat(),
+        [&written[1..], &fresh].concat(),
+        [&default[..], &[all]].concat(),
+        [&written[..], &[all]].concat(),
+    ] {
+        test(cases, sheet, &entries);
+    }
 }
 
 fn test(cases: &mut Cases, sheet: &Sheet, entries: &[u8]) {

@@ -1,10 +1,11 @@
 //! Cases of reading, bodies, components and default sequences.
 
 use crate::cases::Cases;
+use crate::choices;
 use rulesheet_tests::inputs::{connected, cycle, damaged, Shape, Style};
 use rulesheet_tests::random::Random;
 use rulesheet_tests::service::{Call, Operation};
-use rulesheet_tests::sheet::{constraint, rule, set_length, Record, Sheet};
+use rulesheet_tests::sheet::{choice, constraint, rule, set_length, Record, Sheet};
 
 pub fn cases() -> Cases {
     let mut cases = Cases::default();
@@ -21,7 +22,29 @@ pub fn cases() -> Cases {
         ask_some(&mut cases, &mut random, &bytes);
     }
     largest(&mut cases);
+    with_choices(&mut cases, &mut random);
     cases
+}
+
+fn with_choices(cases: &mut Cases, random: &mut Random) {
+    for sheet in choices::small() {
+        ask_all(cases, random, &sheet);
+    }
+    for sheet in choices::most_atoms() {
+        ask_some(cases, random, &sheet.bytes());
+    }
+    for _ in 0..16 {
+        let sheet = choices::any(random, 8);
+        ask_all(cases, random, &sheet);
+    }
+    for bytes in malformed_choices() {
+        ask_some(cases, random, &bytes);
+    }
+    for _ in 0..60 {
+        let sheet = choices::any(random, 4);
+        let bytes = damaged(random, &sheet);
+        ask_some(cases, random, &bytes);
+    }
 }
 
 /// Reading, bodies at the limits of the number, components and defaults with rooms near the need.
@@ -260,6 +283,30 @@ fn several_faults() -> Vec<Vec<u8>> {
         sheets.push(bytes);
     }
     sheets.push(fitted([&eleven.bytes()[..], &[0]].concat()));
+    sheets
+}
+
+/// Choice rules with a fault, and 65 atoms with faults that are asked about before and after.
+fn malformed_choices() -> Vec<Vec<u8>> {
+    let mut sheets = Vec::new();
+    for atoms in [0, 1, 4, 64] {
+        sheets.extend([0, 1, 3, 4, 63, 64, 255].map(|head| Sheet::new(atoms, vec![choice(head, &[], &[])]).bytes()));
+    }
+    for list in [&[4][..], &[1, 1], &[1, 0], &[0, 2, 255]] {
+        sheets.extend([choice(1, list, &[]), choice(1, &[0], list)].map(|record| Sheet::new(4, vec![record]).bytes()));
+    }
+    let crowded = Sheet::new(63, [choices::free(2), vec![rule(0, &[1, 2], &[2])]].concat());
+    let (bytes, last) = (crowded.bytes(), crowded.record_at(2));
+    for (place, value) in [(0, 2), (0, 200), (1, 2), (1, 3), (2, 63), (3, 9), (4, 2), (5, 63)] {
+        sheets.push(changed(&bytes, last + place, value));
+    }
+    sheets.push(fitted([&bytes[..], &[0]].concat()));
+    sheets.push(fitted(bytes[..last].to_vec()));
+    // Eleven atoms in a component, with 64 and with 65 atoms, and with bytes left over.
+    for atoms in [53, 54] {
+        let eleven = Sheet::new(atoms, choices::chosen(cycle(&upto(11)))).bytes();
+        sheets.push(fitted([&eleven[..], &[0]].concat()));
+    }
     sheets
 }
 

@@ -1,10 +1,11 @@
 //! Cases of unfolded programs and clauses.
 
 use crate::cases::Cases;
+use crate::choices;
 use rulesheet_tests::inputs::{connected, cycle, Shape, Style};
 use rulesheet_tests::random::Random;
 use rulesheet_tests::reference::Graph;
-use rulesheet_tests::sequences::{lengthened, malformed, minimal, mixed, without, MOST_ENTRIES};
+use rulesheet_tests::sequences::{lengthened, malformed, minimal, mixed, without, without_fresh, MOST_ENTRIES};
 use rulesheet_tests::service::{Call, Operation};
 use rulesheet_tests::sheet::{constraint, rule, sequence_bytes, Sheet};
 
@@ -30,7 +31,30 @@ pub fn cases() -> Cases {
     }
     long_outputs(&mut cases, &mut random);
     refusals(&mut cases, &mut random);
+    with_choices(&mut cases, &mut random);
     cases
+}
+
+fn with_choices(cases: &mut Cases, random: &mut Random) {
+    for sheet in choices::small() {
+        some_sequences(cases, random, &sheet);
+    }
+    for _ in 0..40 {
+        let sheet = choices::any(random, 7);
+        some_sequences(cases, random, &sheet);
+        let entries = without_fresh(random, &sheet, &Graph::new(&sheet).default_sequence());
+        ask(cases, random, &sheet, &entries);
+    }
+    for sheet in choices::most_atoms() {
+        let default = Graph::new(&sheet).default_sequence();
+        ask(cases, random, &sheet, &default);
+    }
+    // Many copies of heads and of fresh atoms.
+    for sheet in [choices::any(random, 10), choices::any(random, 10)] {
+        let graph = Graph::new(&sheet);
+        let entries = lengthened(random, &graph, &graph.default_sequence(), MOST_ENTRIES);
+        ask(cases, random, &sheet, &entries);
+    }
 }
 
 /// Both operations, with the room that is needed and with another room near it.

@@ -1,0 +1,50 @@
+use borrow.Author.Needs.{needs}
+use Prim.Native.Nat.{_-_}
+use Rattle.translation.proofs.Records.{Choosing, choosing-start, choosing-turn, choosing-small, choosing-end}
+use Rattle.translation.proofs.choices_in.Statement.{statement}
+use Rattle.translation.proofs.choices_in.Tie as tie
+
+abbrev Inv-loop : tie.InvT-loop
+Inv-loop kinds m number₀ j₀ number j = Choosing kinds m j number
+
+abbrev μ-loop : tie.MeasureT-loop
+μ-loop kinds m number₀ j₀ number j = m - j
+
+loop-holds : tie.Need-loop-holds Inv-loop μ-loop
+loop-holds c = search (needs, choosing-start)
+
+element-copy-out-wide : tie.Need-element-copy-out-wide Inv-loop μ-loop
+element-copy-out-wide c = search needs
+
+wide-requires : tie.Need-wide-requires Inv-loop μ-loop
+wide-requires c κs = search needs
+
+next-fresh-requires : tie.Need-next-fresh-requires Inv-loop μ-loop
+next-fresh-requires c κs = search (needs, choosing-small)
+
+add-j : tie.Need-add-j Inv-loop μ-loop
+add-j c = search needs
+
+loop-less : tie.Need-loop-less Inv-loop μ-loop
+loop-less c = search needs
+
+loop-again : tie.Need-loop-again Inv-loop μ-loop
+loop-again c = search (needs, choosing-turn)
+
+returns : tie.Need-returns Inv-loop μ-loop
+returns c = search (needs, choosing-end)
+
+pub choices-in-spec : {M : Type 1} → statement M
+choices-in-spec =
+    tie.close
+    (tie.spec
+    Inv-loop
+    μ-loop
+    loop-holds
+    element-copy-out-wide
+    wide-requires
+    next-fresh-requires
+    add-j
+    loop-less
+    loop-again
+    returns)

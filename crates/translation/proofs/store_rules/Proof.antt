@@ -1,0 +1,62 @@
+use Rattle.translation.proofs.Linking.{choice-low, fresh-low}
+use Rattle.translation.proofs.Appending.{rule-room, rule-stored, choice-room, choice-second, choice-stored, none-stored}
+use borrow.Author.Needs.{needs}
+use Rattle.translation.proofs.store_rules.Statement.{statement}
+use Rattle.translation.proofs.store_rules.Tie as tie
+
+wide-requires : tie.Need-wide-requires
+wide-requires c κs = search needs
+
+store-requires : tie.Need-store-requires
+store-requires c κs = search (needs, rule-room)
+
+returns : tie.Need-returns
+returns c = search (needs, rule-stored)
+
+wide-requires-2 : tie.Need-wide-requires-2
+wide-requires-2 c κs = search needs
+
+added-atom-requires : tie.Need-added-atom-requires
+added-atom-requires c κs = search (needs, fresh-low)
+
+store-requires-2 : tie.Need-store-requires-2
+store-requires-2 c κs = search (needs, choice-room)
+
+cast-t19 : tie.Need-cast-t19
+cast-t19 c = search needs
+
+added-atom-requires-2 : tie.Need-added-atom-requires-2
+added-atom-requires-2 c κs = search (needs, choice-low)
+
+store-requires-3 : tie.Need-store-requires-3
+store-requires-3 c κs =
+    let second = c .before .before .before .before .before in
+    let choice = second .before .before .before .before .before .before .before in
+    choice-second _ _ _ (choice .before .before .wide .ensures) _ (choice .before .before .before .pre .0) (search needs) _ _ (second .store2 .ensures)
+
+returns-2 : tie.Need-returns-2
+returns-2 c =
+    let other = c .before .before .before .before .before in
+    let second = other .before in
+    let first = second .before .before .before .before .before in
+    let start = first .before .before .before .before .before in
+    choice-stored _ _ _ (first .before .before .before .before .wide .ensures) _ (start .pre .0) (search needs) _ _ _ (first .added-atom .ensures) (first .before .wide2 .ensures) (other .added-atom2 .ensures) (search (needs, fresh-low)) _ _ (second .store2 .ensures) (c .store3 .ensures)
+
+returns-3 : tie.Need-returns-3
+returns-3 c = search (needs, none-stored)
+
+pub store-rules-spec : {M : Type 1} → statement M
+store-rules-spec =
+    tie.close
+    (tie.spec
+    wide-requires
+    store-requires
+    returns
+    wide-requires-2
+    added-atom-requires
+    store-requires-2
+    cast-t19
+    added-atom-requires-2
+    store-requires-3
+    returns-2
+    returns-3)
