@@ -9,7 +9,7 @@
  *
  * Lent memory does not overlap; a pointer may not be null, even with length 0. A function keeps nothing from one call to
  * the next and allocates nothing. A call takes at most 36 KB of stack: as measured, read, body, components and default
- * 8 KB, count 11 KB, test 19 KB, unfolded 28 KB, clauses 32 KB. */
+ * 8 KB, count 11 KB, test 19 KB, unfolded and clauses 32 KB. */
 
 #ifndef RULESHEET_H
 #define RULESHEET_H

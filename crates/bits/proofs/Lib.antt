@@ -1,6 +1,7 @@
 pub mod Digits
 pub mod Gathering
 pub mod Visiting
+pub mod Runs
 pub mod Rising
 pub mod Listing
 pub mod Picking

@@ -4,7 +4,7 @@ ghost use mathlib.Core.Bool.{true};
 ghost use Prim.Native.Nat.{_+_, _≤_, _<_};
 ghost use Rattle.bits.specs.inner.Sets.{has, With, WithIf, Without, ByteAt, Gathered, Subset, Both, Either, Difference, Size};
 ghost use Rattle.bits.specs.inner.Listed.{Listing};
-ghost use Rattle.bits.specs.inner.Visited.{listed, Lowest, Rest};
+ghost use Rattle.bits.specs.inner.Visited.{listed, Lowest, Rest, HasRun, WithoutRun};
 ghost use lib.ListN.{length};
 ghost use Rattle.lists.specs.Lists.{below};
 
@@ -121,6 +121,22 @@ pub fn rest(x: u64) -> u64
     ensures { λ r. ⌜ Rest x r ⌝ }
 {
     x & (x - 1)
+}
+
+// Are the eight atoms from a on all in the set?
+pub fn has_eight(x: u64, a: usize) -> bool
+    requires { ⌜ a < 64 ⌝ }
+    ensures { λ r. ⌜ HasRun x a 8 r ⌝ }
+{
+    subset(255, x >> a)
+}
+
+// The set without the eight atoms from a on.
+pub fn without_eight(x: u64, a: usize) -> u64
+    requires { ⌜ a + 8 ≤ 64 ⌝ }
+    ensures { λ r. ⌜ WithoutRun x a 8 r ⌝ }
+{
+    difference(x, 255 << a)
 }
 
 // At most 16 atoms, listed.

@@ -1,6 +1,6 @@
 -- What `all`, `any`, `filter`, `member`, `range` and `flatMap` say of a list's members.
 use mathlib.Core.Bool.{Bool, true, false, not, _&&_, _||_, false≢true}
-use mathlib.Core.List.{List, [], _∷_, _++_, map, flatMap, List·Memᴰ, List·Memᴰ·head, List·Memᴰ·tail, List·Memᴰ·not-nil, List·Memᴰ·cases-cons, List·Memᴰ·append-cases, append-nil, Memᴰ·append-left, Memᴰ·append-right}
+use mathlib.Core.List.{List, [], _∷_, _++_, map, flatMap, List·Memᴰ, List·Memᴰ·head, List·Memᴰ·tail, List·Memᴰ·not-nil, List·Memᴰ·cases-cons, List·Memᴰ·append-cases, append-nil, append-assoc, Memᴰ·append-left, Memᴰ·append-right}
 use mathlib.Core.Logic.{⊎-elim}
 use mathlib.Core.Path.{_≡_, refl, sym, _∙_, ap, ap₂, subst}
 use Prim.Native.Nat.{ℕ, zero, suc, _+_, _-_, _≤_, _<_}
@@ -89,6 +89,11 @@ module _ {A : Type 0} where
   filter-none p [] h = refl
   filter-none p (x ∷ l) h = rw (h x (List·Memᴰ·head refl)) (filter-none p l (λ y m. h y (List·Memᴰ·tail m)))
 
+  pub filter-all : (p : A → Bool) (l : List A) → ((x : A) → List·Memᴰ x l → p x ≡ true) → filter p l ≡ l
+  unfolding filter
+  filter-all p [] h = refl
+  filter-all p (x ∷ l) h = rw (h x (List·Memᴰ·head refl)) (ap (λ k. x ∷ k) (filter-all p l (λ y m. h y (List·Memᴰ·tail m))))
+
   -- The members that pass, with those that also pass another test and those that do not.
   pub filter-parts : (p t : A → Bool) (l : List A) → length (filter p l) ≡ length (filter (λ x. p x && t x) l) + length (filter (λ x. p x && not (t x)) l)
   unfolding filter
@@ -138,6 +143,11 @@ module _ {A B : Type 0} where
   unfolding flatMap
   flatMap-cong f g [] h = refl
   flatMap-cong f g (x ∷ l) h = rw (h x (List·Memᴰ·head refl), flatMap-cong f g l (λ y m. h y (List·Memᴰ·tail m))) refl
+
+  pub flatMap-append : (f : A → List B) (l m : List A) → flatMap f (l ++ m) ≡ flatMap f l ++ flatMap f m
+  unfolding flatMap
+  flatMap-append f [] m = refl
+  flatMap-append f (x ∷ l) m = ap (λ k. f x ++ k) (flatMap-append f l m) ∙ sym (append-assoc (f x) (flatMap f l) (flatMap f m))
 
   pub flatMap-in : (f : A → List B) (l : List A) (x : A) (y : B) → List·Memᴰ x l → List·Memᴰ y (f x) → List·Memᴰ y (flatMap f l)
   unfolding flatMap

@@ -1,23 +1,27 @@
 -- Laws of writing the words of bodies.
+use mathlib.Core.Bool.{Bool, true}
 use mathlib.Core.List.{List, [], _∷_, _++_, map, map-append, flatMap}
 use mathlib.Core.Path.{_≡_, refl, sym, _∙_, ap, ap₂, subst}
 use Prim.Native.Nat.{ℕ, zero, suc, _+_, _-_, _≤_, _<_}
 use native.Mathlib.Omega.{arith}
 use lib.ListN.{length, length-append, length-map, getD}
 use Rattle.lists.specs.Lists.{range}
+use Rattle.lists.proofs.Nodup.{length-range}
 use Rattle.unfolding.specs.Unfolded.{last, renamed, bodyWords}
 use Rattle.bits.specs.inner.Sets.{Size}
-use Rattle.bits.specs.inner.Visited.{listed, Lowest, Rest}
+use Rattle.bits.specs.inner.Visited.{listed, Lowest, Rest, HasRun, WithoutRun}
+use Rattle.bits.proofs.Visiting.{listed-lowest}
+use Rattle.bits.proofs.Runs.{run-length}
 use Rattle.program.specs.inner.Held.{addedAtom, bodyOf}
 use Rattle.writer.specs.inner.Wrote.{Wrote}
 use Rattle.writer.proofs.Writing.{wrote-append, wrote-length}
-use Rattle.writer.proofs.Loops.{flatMap-one, flatMap-map, SetLeft, set-start, set-turn, set-room, set-length, set-end, RangeLeft, range-start, range-turn, range-room, range-length, range-end}
+use Rattle.writer.proofs.Loops.{flatMap-one, flatMap-map, SetLeft, set-start, set-turn, set-room, set-run-turn, set-run-room, set-length, set-end, RangeLeft, range-start, range-turn, range-room, range-length, range-end}
 use Rattle.copies.specs.inner.Tables.{Values}
 use Rattle.copies.specs.inner.Bodies.{bodyBy, entryBody, bodiesBy, negativeAtoms, bodyAtoms}
 use Rattle.copies.specs.inner.Kept.{ListedAt}
 use Rattle.copies.proofs.Tables.{listed-last}
 use Rattle.copies.specs.declared.KeptRules.{KeptRules}
-use Rattle.unfolded_output.specs.inner.Words.{bodiesWords, setBodyWords, listedWords, entriesWords, keptWords, SetWrote, AddedWrote}
+use Rattle.unfolded_output.specs.inner.Words.{eightWords, bodiesWords, setBodyWords, listedWords, entriesWords, keptWords, SetWrote, AddedWrote}
 
 -- The variables of a set's atoms.
 abbrev pub VarsLeft : List ℕ → List ℕ → ℕ → ℕ → List ℕ → ℕ → ℕ → Type 0
@@ -40,6 +44,20 @@ module _ (vars old : List ℕ) (at x : ℕ) where
     pub vars-turn : (a r : ℕ) → Lowest left a → Rest left r → (new : List ℕ) (behind : ℕ) → Wrote cur next (getD vars a 0 ∷ []) new behind → VarsLeft vars old at x new behind r
     vars-turn a r L R new behind W = set-turn (λ b. getD vars b 0 ∷ []) old at x cur next left S a r L R new behind W
 
+    -- Eight in a row are written at once.
+    module _ (a r : ℕ) (b : Bool) (L : Lowest left a) (H : HasRun left a 8 b) (t : b ≡ true) (W : WithoutRun left a 8 r) where
+      pub run-room : at + length (listed x) ≤ length old → next + 8 ≤ length cur
+      run-room h =
+          let k = set-size in
+          let e = set-run-room (λ b. getD vars b 0 ∷ []) old at x cur next left S a 8 r L (H .run t) W (let l : at + length (flatMap (λ b. getD vars b 0 ∷ []) (listed x)) ≤ length old = omega arith in l) in
+          let s = ap length (flatMap-one (λ b. getD vars b 0) (range a 8)) ∙ (length-map (range a 8) (λ b. getD vars b 0) ∙ length-range a 8) in
+          omega arith
+
+      pub run-turn : (new : List ℕ) (behind : ℕ) → Wrote cur next (eightWords vars a) new behind → VarsLeft vars old at x new behind r
+      unfolding eightWords
+      run-turn new behind E =
+          set-run-turn (λ b. getD vars b 0 ∷ []) old at x cur next left S a 8 r L (H .run t) W new behind (subst (λ ws. Wrote cur next ws new behind) (sym (flatMap-one (λ b. getD vars b 0) (range a 8))) E)
+
     pub vars-length : length cur ≡ length old
     vars-length = set-length (λ b. getD vars b 0 ∷ []) old at x cur next left S
 
@@ -49,6 +67,50 @@ module _ (vars old : List ℕ) (at x : ℕ) where
         let m = W .moved in
         let k = set-size in
         record { wrote = subst (λ ws. Wrote old at ws cur next) (flatMap-one (λ b. getD vars b 0) (listed x)) W; far = omega arith }
+
+-- What is left of a set falls, with its smallest atom or with eight in a row.
+module _ (left a r : ℕ) (L : Lowest left a) where
+  pub vars-less : Rest left r → length (listed r) < length (listed left)
+  vars-less R = let e = ap length (listed-lowest left a L r R) in omega arith
+
+  pub run-less : (b : Bool) → HasRun left a 8 b → b ≡ true → WithoutRun left a 8 r → length (listed r) < length (listed left)
+  run-less b H t W = let e = run-length left a 8 r L (H .run t) W in omega arith
+
+pub run-fits : (x a : ℕ) (b : Bool) → HasRun x a 8 b → b ≡ true → a + 8 ≤ 64
+run-fits x a b H t = H .run t .fits
+
+-- Eight atoms in a row.
+abbrev pub EightLeft : List ℕ → List ℕ → ℕ → ℕ → List ℕ → ℕ → ℕ → Type 0
+EightLeft vars old at a = RangeLeft (λ b. getD vars b 0 ∷ []) old at a (a + 8)
+
+module _ (vars old : List ℕ) (at a : ℕ) where
+  eight-are : flatMap (λ b. getD vars b 0 ∷ []) (range a (a + 8 - a)) ≡ eightWords vars a
+  unfolding eightWords
+  eight-are = ap (λ k. flatMap (λ b. getD vars b 0 ∷ []) (range a k)) (let e : a + 8 - a ≡ 8 = omega arith in e) ∙ flatMap-one (λ b. getD vars b 0) (range a 8)
+
+  eight-size : length (eightWords vars a) ≡ 8
+  unfolding eightWords
+  eight-size = length-map (range a 8) (λ b. getD vars b 0) ∙ length-range a 8
+
+  pub eight-start : EightLeft vars old at a old at a
+  eight-start = range-start (λ b. getD vars b 0 ∷ []) old at a (a + 8)
+
+  module _ (cur : List ℕ) (next b : ℕ) (L : EightLeft vars old at a cur next b) where
+    module _ (lt : b < a + 8) where
+      pub eight-room : at + 8 ≤ length old → next < length cur
+      eight-room h =
+          let s = ap length eight-are ∙ eight-size in
+          let r = range-room (λ b. getD vars b 0 ∷ []) old at a (a + 8) cur next b L lt (let l : at + length (flatMap (λ b. getD vars b 0 ∷ []) (range a (a + 8 - a))) ≤ length old = omega arith in l) in
+          omega arith
+
+      pub eight-turn : (new : List ℕ) (behind : ℕ) → Wrote cur next (getD vars b 0 ∷ []) new behind → EightLeft vars old at a new behind (b + 1)
+      eight-turn new behind W = range-turn (λ b. getD vars b 0 ∷ []) old at a (a + 8) cur next b L lt new behind W
+
+    pub eight-length : length cur ≡ length old
+    eight-length = range-length (λ b. getD vars b 0 ∷ []) old at a (a + 8) cur next b L
+
+    pub eight-end : a + 8 ≤ b → Wrote old at (eightWords vars a) cur next
+    eight-end l = subst (λ ws. Wrote old at ws cur next) eight-are (range-end (λ b. getD vars b 0 ∷ []) old at a (a + 8) cur next b L l)
 
 -- The added atom.
 module _ (added : ℕ) (old : List ℕ) (at : ℕ) where

@@ -1,8 +1,10 @@
 // Writing the unfolded program's words.
+use bits::has_eight;
 use bits::lowest;
 use bits::rest;
 use bits::size;
 use bits::with;
+use bits::without_eight;
 use copies::KeptRules;
 use copies::copy_at;
 use copies::entry_at;
@@ -25,10 +27,45 @@ ghost use Rattle.copies.specs.inner.Tables.{Values};
 ghost use Rattle.copies.specs.inner.Bodies.{bodyAtoms};
 ghost use Rattle.copies.specs.inner.Kept.{Inside};
 ghost use Rattle.copies.specs.inner.Ready.{Ready, unfoldedIn};
-ghost use Rattle.unfolded_output.specs.inner.Words.{setBodyWords, listedWords, entriesWords, keptWords, copiesWords, SetWrote, AddedWrote};
+ghost use Rattle.unfolded_output.specs.inner.Words.{eightWords, setBodyWords, listedWords, entriesWords, keptWords, copiesWords, SetWrote, AddedWrote};
 
-// The variables of a set's atoms.
-fn put_set(out: &mut [u32], at: usize, x: u64, vars: &[u32; 64]) -> usize
+// The variables of the eight atoms from a on.
+fn put_eight(out: &mut [u32], at: usize, a: usize, vars: &[u32; 64]) -> usize
+    requires { ⌜ (a + 8 ≤ 64) × (at + 8 ≤ length (now out)) ⌝ }
+    ensures { λ r. ⌜ Wrote (now (out .entry)) at (eightWords (now (vars .entry)) a) (now (out .exit)) r ⌝ }
+{
+    let end = a + 8;
+    let mut next = at;
+    let mut b = a;
+    while b < end {
+        next = put_word(out, next, vars[b]);
+        b += 1;
+    }
+    next
+}
+
+// The variables of a set's atoms, eight at once where eight atoms in a row are in the set.
+fn put_runs(out: &mut [u32], at: usize, x: u64, vars: &[u32; 64]) -> usize
+    requires { ⌜ at + length (listed x) ≤ length (now out) ⌝ }
+    ensures { λ r. ⌜ SetWrote (now (out .entry)) at (now (vars .entry)) x (now (out .exit)) r ⌝ }
+{
+    let mut next = at;
+    let mut left = x;
+    while 0 < left {
+        let a = lowest(left);
+        if has_eight(left, a) {
+            left = without_eight(left, a);
+            next = put_eight(out, next, a, vars);
+            continue;
+        }
+        next = put_word(out, next, vars[a]);
+        left = rest(left);
+    }
+    next
+}
+
+// The variables of a set's atoms, one by one.
+fn put_each(out: &mut [u32], at: usize, x: u64, vars: &[u32; 64]) -> usize
     requires { ⌜ at + length (listed x) ≤ length (now out) ⌝ }
     ensures { λ r. ⌜ SetWrote (now (out .entry)) at (now (vars .entry)) x (now (out .exit)) r ⌝ }
 {
@@ -39,6 +76,17 @@ fn put_set(out: &mut [u32], at: usize, x: u64, vars: &[u32; 64]) -> usize
         left = rest(left);
     }
     next
+}
+
+// The variables of a set's atoms. Few atoms mostly stand apart, and are then written faster one by one.
+fn put_set(out: &mut [u32], at: usize, x: u64, vars: &[u32; 64]) -> usize
+    requires { ⌜ at + length (listed x) ≤ length (now out) ⌝ }
+    ensures { λ r. ⌜ SetWrote (now (out .entry)) at (now (vars .entry)) x (now (out .exit)) r ⌝ }
+{
+    if size(x) < 24 {
+        return put_each(out, at, x, vars);
+    }
+    put_runs(out, at, x, vars)
 }
 
 // The last copy of an added atom a is the variable a + 1, which stands for the atom in the table.

@@ -6,9 +6,10 @@ use native.Mathlib.Omega.{arith}
 use lib.Bits.{bitAnd}
 use lib.ListN.{length}
 use Rattle.lists.specs.Lists.{range}
-use Rattle.lists.proofs.Members.{range-left, range-over}
-use Rattle.bits.specs.inner.Visited.{listed, Lowest, Rest}
+use Rattle.lists.proofs.Members.{flatMap-append, range-left, range-over}
+use Rattle.bits.specs.inner.Visited.{listed, Lowest, Rest, Run, WithoutRun}
 use Rattle.bits.proofs.Visiting.{listed-lowest, listed-none, rest-is}
+use Rattle.bits.proofs.Runs.{listed-run}
 use Rattle.writer.specs.inner.Wrote.{Wrote}
 use Rattle.writer.proofs.Writing.{Left, left-start, left-turn, left-length, left-room, left-end}
 
@@ -48,6 +49,17 @@ module _ {A : Type 0} (f : ℕ → List A) (old : List A) (at x : ℕ) where
 
       pub set-turn : (new : List A) (behind : ℕ) → Wrote cur next (f a) new behind → SetLeft f old at x new behind r
       set-turn new behind W = record { rest = left-turn old at (setWords f x) cur new (f a) _ _ next behind (S .rest) step W }
+
+    -- A run of atoms from the lowest on is visited at once.
+    module _ (a k r : ℕ) (L : Lowest left a) (R : Run left a k) (W : WithoutRun left a k r) where
+      run-step : setWords f left ≡ flatMap f (range a k) ++ setWords f r
+      run-step = ap (flatMap f) (listed-run left a k r L R W) ∙ flatMap-append f (range a k) (listed r)
+
+      pub set-run-turn : (new : List A) (behind : ℕ) → Wrote cur next (flatMap f (range a k)) new behind → SetLeft f old at x new behind r
+      set-run-turn new behind W = record { rest = left-turn old at (setWords f x) cur new (flatMap f (range a k)) _ _ next behind (S .rest) run-step W }
+
+      pub set-run-room : at + length (setWords f x) ≤ length old → next + length (flatMap f (range a k)) ≤ length cur
+      set-run-room h = left-room old at (setWords f x) cur (flatMap f (range a k)) _ _ next (S .rest) run-step h
 
     pub set-room : (a : ℕ) → 0 < left → Lowest left a → at + length (setWords f x) ≤ length old → next + length (f a) ≤ length cur
     set-room a p L h =

@@ -1,8 +1,8 @@
 -- The atoms of a set as a list, and what visiting them one by one promises.
-use mathlib.Core.Bool.{true, false}
+use mathlib.Core.Bool.{Bool, true, false}
 use mathlib.Core.List.{List}
 use mathlib.Core.Path.{_≡_}
-use Prim.Native.Nat.{ℕ, _<_}
+use Prim.Native.Nat.{ℕ, _+_, _≤_, _<_}
 use Rattle.lists.specs.Lists.{filter, range}
 use Rattle.bits.specs.inner.Sets.{has, Without}
 
@@ -20,3 +20,19 @@ pub record Lowest (x a : ℕ) : Type 0 where
 pub record Rest (x r : ℕ) : Type 0 where
   pub fewer : r < x
   pub without : (a : ℕ) → Lowest x a → Without x a r
+
+-- The k numbers from a on are in the set.
+pub record Run (x a k : ℕ) : Type 0 where
+  pub fits : a + k ≤ 64
+  pub all : (b : ℕ) → a ≤ b → b < a + k → has x b ≡ true
+
+-- r says whether they are.
+pub record HasRun (x a k : ℕ) (r : Bool) : Type 0 where
+  pub run : r ≡ true → Run x a k
+  pub all-run : Run x a k → r ≡ true
+
+-- r is the set without the k numbers from a on.
+pub record WithoutRun (x a k r : ℕ) : Type 0 where
+  pub gone : (b : ℕ) → a ≤ b → b < a + k → has r b ≡ false
+  pub below : (b : ℕ) → b < a → has r b ≡ has x b
+  pub above : (b : ℕ) → a + k ≤ b → has r b ≡ has x b

@@ -36,6 +36,10 @@ keptWords pos neg added vars var kept = var ∷ kept .rules ∷ listedWords pos 
 unfoldable pub copiesWords : Unfolded → List ℕ
 copiesWords U = flatMap copyWords (U .copies)
 
+-- The variables of the eight atoms from a on.
+unfoldable pub eightWords : List ℕ → ℕ → List ℕ
+eightWords vars a = map (λ b. getD vars b 0) (range a 8)
+
 -- The variables of the set's atoms are written, and so many words.
 pub record SetWrote (old : List ℕ) (at : ℕ) (vars : List ℕ) (x : ℕ) (new : List ℕ) (next : ℕ) : Type 0 where
   pub wrote : Wrote old at (map (λ b. getD vars b 0) (listed x)) new next
