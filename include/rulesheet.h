@@ -49,8 +49,8 @@ enum rulesheet_verdict {
  * the longest has 619 bytes, and 643 hold any sequence that is accepted. No sheet with choice rules needs as many words. */
 #define RULESHEET_COMPONENTS_ROOM 64
 #define RULESHEET_DEFAULT_ROOM 643
-#define RULESHEET_UNFOLDED_ROOM 9585922
-#define RULESHEET_CLAUSES_ROOM 38192384
+#define RULESHEET_UNFOLDED_ROOM 9585475
+#define RULESHEET_CLAUSES_ROOM 38190594
 
 /* Reads a sheet: its number of written atoms and its number of records. */
 uint32_t rulesheet_read(const uint8_t *sheet, size_t sheet_len, uint64_t *atoms, uint64_t *records);

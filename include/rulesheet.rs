@@ -56,8 +56,8 @@ pub mod raw {
 /// Room that is enough for every legal input, in bytes or words.
 pub const COMPONENTS_ROOM: usize = 64;
 pub const DEFAULT_ROOM: usize = 643;
-pub const UNFOLDED_ROOM: usize = 9_585_922;
-pub const CLAUSES_ROOM: usize = 38_192_384;
+pub const UNFOLDED_ROOM: usize = 9_585_475;
+pub const CLAUSES_ROOM: usize = 38_190_594;
 
 /// The numbers of written atoms and of records.
 pub fn read(sheet: &[u8]) -> Result<[u64; 2], u32> {

@@ -95,12 +95,12 @@ static void set_sequence(int length) {
     sequence_len = 3 + length;
 }
 
-/* 128 rules for atom 0 with every atom in both lists; a sequence of 577 entries 0 and every other atom: the longest
- * outputs of unfolded and clauses, of sheets with choice rules too. */
+/* 128 rules for atom 0 with every atom in both lists, but that the first lacks its head, so that the copies keep rules; a
+ * sequence of 577 entries 0 and every other atom: the longest outputs of unfolded and clauses, of sheets with choice rules too. */
 static void longest(void) {
     begin(64);
     for (int rule = 0; rule < 128; rule++) {
-        add_rule(0, 0, 64, 0, 64);
+        add_rule(0, rule == 0, 64, 0, 64);
     }
     end();
     memset(sequence, 0, sizeof sequence);
@@ -138,11 +138,12 @@ static void decided(void) {
     }
 }
 
-/* One written atom: 63 choice rules and 65 rules for it, so that there are as many rules as can be; the longest sequence. */
+/* One written atom: 63 choice rules and 65 rules for it, so that there are as many rules as can be, all but the first with the
+ * atom in both lists; the longest sequence. */
 static void most_rules(void) {
     begin(1);
     for (int record = 0; record < 128; record++) {
-        add_record(record < 63 ? CHOICE : RULE, 0, 0, 1, 0, 1);
+        add_record(record < 63 ? CHOICE : RULE, 0, 0, record > 0, 0, 1);
     }
     end();
     memset(sequence, 0, sizeof sequence);

@@ -70,6 +70,13 @@ fn others(atoms: &[u8], without: u8) -> Vec<u8> {
     others
 }
 
+/// The atoms with one, rising.
+fn with(atoms: &[u8], atom: u8) -> Vec<u8> {
+    let mut list = [others(atoms, atom), vec![atom]].concat();
+    list.sort_unstable();
+    list
+}
+
 /// So many of the atoms below n, in random order.
 pub fn choose(random: &mut Random, n: usize, number: usize) -> Vec<u8> {
     let mut atoms: Vec<u8> = (0..n as u8).collect();
@@ -95,6 +102,39 @@ pub fn connected(random: &mut Random, shape: Shape, size: usize) -> Sheet {
     }
     random.shuffle(&mut records);
     Sheet::new(n as u8, records)
+}
+
+/// A sheet with a component of one shape and few ways into it, so that many copies keep no rule, for some time or for
+/// ever. Of two atoms outside, one has no rule, and one has a rule that reads itself alone.
+pub fn barely_entered(random: &mut Random, shape: Shape, size: usize) -> Sheet {
+    let atoms = choose(random, size + 2, size + 2);
+    let (inside, outside) = atoms.split_at(size);
+    let mut records = shape.rules(random, inside);
+    for record in &mut records {
+        if random.one_in(6) {
+            record.positives = with(&record.positives, *random.pick(inside));
+        }
+        if random.one_in(6) {
+            record.kind = CHOICE;
+        }
+    }
+    for _ in 0..random.between(0, 3) {
+        let inner = *random.pick(inside);
+        records.push(match random.below(6) {
+            0 => rule(inner, &[], &[]),
+            1 => rule(inner, &[], &random.some_of(&atoms, 2)),
+            2 => choice(inner, &[], &[]),
+            // No copy of an atom outside keeps a rule, but that drops none.
+            3 => rule(inner, &[*random.pick(outside)], &[]),
+            // This is no way in.
+            4 => rule(inner, &[inner], &[]),
+            _ => choice(inner, &random.some_of(inside, 2), &random.some_of(&atoms, 1)),
+        });
+    }
+    records.push(rule(outside[0], &[outside[0]], &[]));
+    records.push(constraint(&random.some_of(&atoms, 2), &random.some_of(&atoms, 1)));
+    random.shuffle(&mut records);
+    Sheet::new(atoms.len() as u8, records)
 }
 
 /// Bounds for a random sheet.
@@ -170,12 +210,12 @@ fn groups(random: &mut Random, atoms: &[u8], largest: usize) -> Vec<Vec<u8>> {
 
 /// A sheet of any shape.
 pub fn any_sheet(random: &mut Random) -> Sheet {
-    let mut sheet = if random.one_in(4) {
-        let shape = *random.pick(&Shape::ALL);
-        let size = random.between(2, 11);
-        connected(random, shape, size)
-    } else {
-        Style::any(random).sheet(random)
+    let shape = *random.pick(&Shape::ALL);
+    let size = random.between(2, 11);
+    let mut sheet = match random.below(8) {
+        0..=1 => connected(random, shape, size),
+        2..=3 => barely_entered(random, shape, size),
+        _ => Style::any(random).sheet(random),
     };
     if random.one_in(3) {
         add_pairs(random, &mut sheet);
@@ -225,18 +265,13 @@ fn any_choice(random: &mut Random, sheet: &Sheet) -> Record {
     let atoms: Vec<u8> = (0..sheet.atoms).collect();
     let head = *random.pick(&atoms);
     let some = random.some_of(&atoms, 2);
-    let with_head = |list: &[u8]| {
-        let mut list = [others(list, head), vec![head]].concat();
-        list.sort_unstable();
-        list
-    };
     match random.below(6) {
         0 => choice(head, &[], &[]),
         1 => choice(head, &[], &some),
         // The head is in its own negative list, in its own positive list, in both.
-        2 => choice(head, &[], &with_head(&some)),
+        2 => choice(head, &[], &with(&some, head)),
         3 => choice(head, &[head], &some),
-        4 => choice(head, &[head], &with_head(&some)),
+        4 => choice(head, &[head], &with(&some, head)),
         // A second choice rule for a head.
         _ => choice(sheet.choices().next().map_or(head, |other| other.head), &[], &some),
     }

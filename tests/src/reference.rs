@@ -38,16 +38,24 @@ impl Service for Reference {
 }
 
 pub fn answer(call: &Call) -> Answer {
+    answer_by(Unfolded::new, call)
+}
+
+/// How the rules of a sheet are derived for the entries of a sequence.
+pub type Derivation = fn(&Sheet, &Graph, &[u8]) -> Unfolded;
+
+/// The answer by another derivation: `Unfolded::unshortened` gives that before W2.
+pub fn answer_by(derivation: Derivation, call: &Call) -> Answer {
     let answer = match call.operation {
         Operation::Read => read(&call.sheet),
         Operation::Body => body(&call.sheet, call.number),
         Operation::Components => components(&call.sheet),
         Operation::Default => default(&call.sheet),
         Operation::Test => test(&call.sheet, &call.sequence),
-        Operation::Unfolded => unfolded(&call.sheet, &call.sequence),
-        Operation::Clauses => clauses(&call.sheet, &call.sequence),
+        Operation::Unfolded => unfold(derivation, &call.sheet, &call.sequence).map(unfolded),
+        Operation::Clauses => unfold(derivation, &call.sheet, &call.sequence).map(clauses),
         Operation::Count => count(&call.sheet),
-        Operation::Program => Ok(Answer::Text(program(&call.sheet))),
+        Operation::Program => Ok(Answer::Text(program(derivation, &call.sheet))),
     };
     within(answer.unwrap_or_else(Answer::Refused), call.room)
 }
@@ -112,23 +120,20 @@ fn test(sheet: &[u8], sequence: &[u8]) -> Result<Answer, Refusal> {
 }
 
 /// The unfolded program of a sheet and a sequence that are accepted together.
-pub fn unfold(sheet: &[u8], sequence: &[u8]) -> Result<(Graph, Unfolded), Refusal> {
+pub fn unfold(derivation: Derivation, sheet: &[u8], sequence: &[u8]) -> Result<Unfolded, Refusal> {
     let (sheet, graph, entries) = accepted_together(sheet, sequence)?;
-    let unfolded = Unfolded::new(&sheet, &graph, &entries);
-    Ok((graph, unfolded))
+    Ok(derivation(&sheet, &graph, &entries))
 }
 
-fn unfolded(sheet: &[u8], sequence: &[u8]) -> Result<Answer, Refusal> {
-    let (_, unfolded) = unfold(sheet, sequence)?;
-    Ok(Answer::Unfolded(unfolded.words()))
+fn unfolded(unfolded: Unfolded) -> Answer {
+    Answer::Unfolded(unfolded.words())
 }
 
-fn clauses(sheet: &[u8], sequence: &[u8]) -> Result<Answer, Refusal> {
-    let (_, unfolded) = unfold(sheet, sequence)?;
+fn clauses(unfolded: Unfolded) -> Answer {
     let clauses = unfolded.clauses();
     let number = clauses.len() as u64;
     let words = clauses.into_iter().flat_map(|clause| [clause, vec![0]].concat()).collect();
-    Ok(Answer::Clauses { words, variables: unfolded.variables().into(), clauses: number })
+    Answer::Clauses { words, variables: unfolded.variables().into(), clauses: number }
 }
 
 fn count(sheet: &[u8]) -> Result<Answer, Refusal> {
@@ -152,8 +157,8 @@ pub fn program_call(input: &[u8]) -> Call {
 }
 
 /// What the clause program prints.
-pub fn program(input: &[u8]) -> String {
-    match answer(&program_call(input)) {
+pub fn program(derivation: Derivation, input: &[u8]) -> String {
+    match answer_by(derivation, &program_call(input)) {
         Answer::Refused(number) => format!("refused {number}\n"),
         Answer::Clauses { words, variables, clauses } => dimacs(&words, variables, clauses),
         other => unreachable!("{other}"),

@@ -22,6 +22,19 @@ pub fn mixed(random: &mut Random, graph: &Graph) -> Vec<u8> {
         .collect()
 }
 
+/// Every component of k atoms k times over, each time in another order.
+pub fn reordered(random: &mut Random, graph: &Graph) -> Vec<u8> {
+    let mut entries = Vec::new();
+    for component in graph.components() {
+        let mut round: Vec<u8> = component.iter().copied().collect();
+        for _ in 0..component.len() {
+            random.shuffle(&mut round);
+            entries.extend(&round);
+        }
+    }
+    entries
+}
+
 /// A passing sequence from which no entry can be left out.
 pub fn minimal(random: &mut Random, graph: &Graph, entries: &[u8]) -> Vec<u8> {
     let mut order: Vec<usize> = (0..entries.len()).collect();
@@ -58,6 +71,14 @@ pub fn lengthened(random: &mut Random, graph: &Graph, entries: &[u8], number: us
 /// The first entry repeated in front until there are so many entries; this adds no chain.
 pub fn padded(entries: &[u8], number: usize) -> Vec<u8> {
     [vec![entries[0]; number - entries.len()], entries.to_vec()].concat()
+}
+
+/// A few atoms over and over in front of the entries: as they lack the others, many of their copies keep no rule.
+pub fn delayed(random: &mut Random, graph: &Graph, entries: &[u8], number: usize) -> Vec<u8> {
+    let mut few = random.some_of(&graph.atoms().collect::<Vec<_>>(), 4);
+    random.shuffle(&mut few);
+    let front = few.iter().cycle().take(number.min(MOST_ENTRIES - entries.len()));
+    front.chain(entries).copied().collect()
 }
 
 /// Every way to be malformed, for entries that are well formed.
@@ -105,9 +126,12 @@ pub fn without_fresh(random: &mut Random, sheet: &Sheet, entries: &[u8]) -> Vec<
 /// A sequence of any sort, as bytes.
 pub fn any_sequence(random: &mut Random, sheet: &Sheet) -> Vec<u8> {
     let graph = &Graph::new(sheet);
-    let default = graph.default_sequence();
-    let mut entries = if random.one_in(2) { default } else { mixed(random, graph) };
-    match random.below(11) {
+    let mut entries = match random.below(4) {
+        0..=1 => graph.default_sequence(),
+        2 => mixed(random, graph),
+        _ => reordered(random, graph),
+    };
+    match random.below(12) {
         0..=2 => {}
         3 if entries.len() <= 30 => entries = minimal(random, graph, &entries),
         4 if !entries.is_empty() => entries = without(&entries, random.below(entries.len())),
@@ -119,6 +143,10 @@ pub fn any_sequence(random: &mut Random, sheet: &Sheet) -> Vec<u8> {
         7 => return random.pick(&malformed(graph.atoms().count() as u8, &entries)).clone(),
         8 => return damaged(random, &entries),
         9 => entries = without_fresh(random, sheet, &entries),
+        10 => {
+            let number = *random.pick(&[1, 5, 20, 100]);
+            entries = delayed(random, graph, &entries, number);
+        }
         _ => {
             let number = random.between(1, 20);
             entries = lengthened(random, graph, &entries, number);

@@ -1,11 +1,11 @@
 // Writing the completion clauses of the unfolded program.
-use bits::with;
 use copies::KeptRules;
 use copies::copy_at;
 use copies::entry_at;
 use copies::kept_rules;
 use copies::last_copies;
 use copies::last_places;
+use copies::mark;
 use copies::overlay;
 use copies::totals_of;
 use program::ProgramTable;
@@ -148,7 +148,7 @@ fn put_copies(
     let table = last_places(q);
     let places = table.places;
     let mut latest = [0u32; 64];
-    let mut copied: u64 = 0;
+    let mut keeping: u64 = 0;
     let mut fresh = t.atoms as u32;
     let mut ends = Ends {
         at: 0,
@@ -159,12 +159,12 @@ fn put_copies(
         let copy = copy_at(q, i, names, sets, &places, fresh);
         let a = copy.atom;
         let var = copy.var;
-        let kept = kept_rules(&t.heads, &t.pos, rules, a, copy.component, copied);
+        let kept = kept_rules(&t.heads, &t.pos, rules, a, copy.component, keeping);
         let mut vars = *lasts;
         overlay(&mut vars, &latest, copy.component);
         ends = put_copy(out, ends, var, kept, &t.pos, &t.neg, &t.added, &vars, lasts);
         latest[a] = var;
-        copied = with(copied, a);
+        keeping = mark(keeping, a, kept.rules);
         fresh = copy.fresh;
         i += 1;
     }

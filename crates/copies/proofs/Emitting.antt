@@ -1,16 +1,17 @@
 -- The loop of an emitter over the entries of a sequence, for any rest that it still has to write.
 use mathlib.Core.List.{List, [], _∷_}
-use mathlib.Core.Path.{_≡_, subst}
+use mathlib.Core.Path.{_≡_, _∙_, ap, subst}
 use Prim.Native.Nat.{ℕ, _+_, _≤_, _<_}
 use native.Mathlib.Omega.{arith}
-use lib.ListN.{length, getD, set, replicate}
+use lib.ListN.{length, length-map, getD, set, replicate}
+use Rattle.lists.specs.Lists.{range}
+use Rattle.lists.proofs.Nodup.{length-range}
 use Rattle.unfolding.specs.Unfolded.{Copy, last}
-use Rattle.bits.specs.inner.Sets.{With}
 use Rattle.program.specs.declared.ProgramTable.{ProgramTable}
 use Rattle.copies.specs.inner.Tables.{Values, Overlaid}
-use Rattle.copies.specs.inner.Bodies.{bodiesBy}
+use Rattle.copies.specs.inner.Bodies.{entryBody, bodiesBy}
 use Rattle.copies.specs.inner.Made.{EntryAt, Made}
-use Rattle.copies.specs.inner.Kept.{Kept}
+use Rattle.copies.specs.inner.Kept.{Marked, Kept}
 use Rattle.copies.specs.inner.Ready.{Ready, unfoldedIn}
 use Rattle.copies.specs.declared.EntryCopy.{EntryCopy}
 use Rattle.copies.specs.declared.KeptRules.{KeptRules}
@@ -21,8 +22,8 @@ pub record Tracked (n : ℕ) (latest : List ℕ) (fresh : ℕ) (Rest : List Copy
   pub tracks : Tracks n extra past latest fresh
   pub rest : Rest copies
 
-pub record Emitting (t : ProgramTable) (q : List ℕ) (i copied : ℕ) (latest : List ℕ) (fresh : ℕ) (Rest : List Copy → Type 0) : Type 0 where
-  pub left : CopiesLeft t q i copied (Tracked (t .atoms) latest fresh Rest)
+pub record Emitting (t : ProgramTable) (q : List ℕ) (i keeping : ℕ) (latest : List ℕ) (fresh : ℕ) (Rest : List Copy → Type 0) : Type 0 where
+  pub left : CopiesLeft t q i keeping (Tracked (t .atoms) latest fresh Rest)
 
 -- Some copies are left of which it holds.
 pub record Some (Rest : List Copy → Type 0) : Type 0 where
@@ -33,9 +34,9 @@ module _ (t : ProgramTable) (names sets q : List ℕ) (R : Ready t names sets q)
   pub emitting-start : (Rest : List Copy → Type 0) → Rest (unfoldedIn t q .copies) → Emitting t q 3 0 (replicate 64 0) (t .atoms) Rest
   emitting-start Rest r = record { left = copies-start t q (Tracked (t .atoms) (replicate 64 0) (t .atoms) Rest) (record { tracks = tracks-start (t .atoms); rest = r }) }
 
-  module _ (i copied : ℕ) (latest : List ℕ) (fresh : ℕ) (Rest : List Copy → Type 0) (E : Emitting t q i copied latest fresh Rest) where
+  module _ (i keeping : ℕ) (latest : List ℕ) (fresh : ℕ) (Rest : List Copy → Type 0) (E : Emitting t q i keeping latest fresh Rest) where
     pub emitting-end : length q ≤ i → Rest []
-    emitting-end l = copies-end t q i copied (Tracked (t .atoms) latest fresh Rest) (E .left) l .rest
+    emitting-end l = copies-end t q i keeping (Tracked (t .atoms) latest fresh Rest) (E .left) l .rest
 
     module _ (within : i < length q) where
       pub emitting-entry : EntryAt names q i
@@ -48,30 +49,36 @@ module _ (t : ProgramTable) (names sets q : List ℕ) (R : Ready t names sets q)
         pub emitting-var : c .var < 1024
         emitting-var = var-small t names sets q R i (E .left .extra) (E .left .past) (E .left .few) within latest fresh (E .left .rest .tracks) c M
 
-        module _ (k : KeptRules) (K : Kept (t .heads) (t .pos) (t .rules) (c .atom) (c .component) copied k)
+        module _ (k : KeptRules) (K : Kept (t .heads) (t .pos) (t .rules) (c .atom) (c .component) keeping k)
             (lasts vars : List ℕ) (F : Values last lasts) (O : Overlaid (c .component) latest lasts vars) where
           abbrev copy : Copy
           copy = record { atom = c .atom; var = c .var; kept = bodiesBy (t .pos) (t .neg) (t .added) vars (k .entries) (k .rules) }
 
           same : copyOf t q i (E .left .extra) (E .left .past) ≡ copy
-          same = copy-is t names sets q R i (E .left .extra) (E .left .past) (E .left .few) within latest fresh (E .left .rest .tracks) c M copied (E .left .marks) k K lasts vars F O
+          same = copy-is t names sets q R i (E .left .extra) (E .left .past) (E .left .few) within latest fresh (E .left .rest .tracks) c M keeping (E .left .marks) k K lasts vars F O
 
           pub emitting-vars : (b : ℕ) → b < 64 → getD vars b 0 < 1024
-          emitting-vars = vars-small t names sets q R i (E .left .extra) (E .left .past) (E .left .few) within latest fresh (E .left .rest .tracks) c M copied (E .left .marks) k K lasts vars F O
+          emitting-vars = vars-small t names sets q R i (E .left .extra) (E .left .past) (E .left .few) within latest fresh (E .left .rest .tracks) c M keeping (E .left .marks) k K lasts vars F O
 
           -- What holds, with the copy in front.
           pub emitting-here : Some (λ cs. Rest (copy ∷ cs))
-          emitting-here = some _ (copies-here t q i copied (Tracked (t .atoms) latest fresh Rest) (E .left) within .rest)
+          emitting-here = some _ (copies-here t q i keeping (Tracked (t .atoms) latest fresh Rest) (E .left) within .rest)
             where
               some : (cs : List Copy) → Rest (copyOf t q i (E .left .extra) (E .left .past) ∷ cs) → Some (λ cs. Rest (copy ∷ cs))
               some cs h = record { copies = cs; holds = subst (λ d. Rest (d ∷ cs)) same h }
 
+          number : length (copyOf t q i (E .left .extra) (E .left .past) .kept) ≡ k .rules
+          unfolding bodiesBy
+          number =
+              ap (λ (d : Copy). length (d .kept)) same
+              ∙ (length-map (range 0 (k .rules)) (λ j. entryBody (t .pos) (t .neg) (t .added) vars (getD (k .entries) j 0)) ∙ length-range 0 (k .rules))
+
           -- One copy more.
-          pub emitting-turn : (next : ℕ) (Rest′ : List Copy → Type 0) → With copied (c .atom) next → ((cs : List Copy) → Rest (copy ∷ cs) → Rest′ cs)
+          pub emitting-turn : (next : ℕ) (Rest′ : List Copy → Type 0) → Marked keeping (c .atom) (k .rules) next → ((cs : List Copy) → Rest (copy ∷ cs) → Rest′ cs)
               → Emitting t q (i + 1) next (set latest (c .atom) (c .var)) (c .fresh) Rest′
-          emitting-turn next Rest′ W f =
+          emitting-turn next Rest′ N f =
               record {
-                left = copies-turn t q i copied (Tracked (t .atoms) latest fresh Rest) (E .left) within (c .atom) next (Tracked (t .atoms) (set latest (c .atom) (c .var)) (c .fresh) Rest′) (M .atom) W
+                left = copies-turn t q i keeping (Tracked (t .atoms) latest fresh Rest) (E .left) within (c .atom) (k .rules) next (Tracked (t .atoms) (set latest (c .atom) (c .var)) (c .fresh) Rest′) (M .atom) number N
                     (λ cs T. record {
                       tracks = tracks-turn t names sets q R i (E .left .extra) (E .left .past) (E .left .few) within latest fresh (E .left .rest .tracks) c M;
                       rest = f cs (subst (λ d. Rest (d ∷ cs)) same (T .rest));

@@ -1,5 +1,5 @@
 -- The loop over the entries of a sequence: which copies are left, and what is known of each as it is made.
-use mathlib.Core.Bool.{Bool, true, false, _||_, cond}
+use mathlib.Core.Bool.{Bool, true, false, cond}
 use mathlib.Core.List.{List, [], _∷_}
 use mathlib.Core.Path.{_≡_, refl, sym, _∙_, ap, ap₂, subst}
 use Prim.Native.Nat.{ℕ, suc, _+_, _≤_, _<_}
@@ -10,11 +10,11 @@ use lib.Dec.{eqb}
 use lib.ListN.{length, getD, drop, drop-of-length-le, set, length-set, replicate, length-replicate, getD-replicate}
 use lib.Seq.{drop-cons}
 use Rattle.lists.proofs.Members.{below-more}
-use Rattle.lists.specs.Lists.{any, below}
+use Rattle.lists.specs.Lists.{below}
 use Rattle.lists.proofs.Bools.{by-bool, bool-ext}
 use Rattle.unfolding.specs.Graph.{sameComponent}
-use Rattle.unfolding.specs.Unfolded.{Copy, last, copied, latest, replaced, keptFor, variable, copiesFrom, unfolded}
-use Rattle.bits.specs.inner.Sets.{has, With}
+use Rattle.unfolding.specs.Unfolded.{Copy, last, latestKeeps, latest, replaced, keptFor, variable, copiesFrom, unfolded}
+use Rattle.bits.specs.inner.Sets.{has}
 use Rattle.bits.proofs.Digits.{zero-has}
 use Rattle.sheet.specs.Sequence.{entries}
 use Rattle.program.specs.inner.Held.{programIn}
@@ -22,7 +22,7 @@ use Rattle.program.specs.declared.ProgramTable.{ProgramTable}
 use Rattle.copies.specs.inner.Tables.{Values, Overlaid}
 use Rattle.copies.specs.inner.Bodies.{bodiesBy}
 use Rattle.copies.specs.inner.Made.{EntryAt, again, componentSet, Made}
-use Rattle.copies.specs.inner.Kept.{Kept}
+use Rattle.copies.specs.inner.Kept.{Marked, Kept}
 use Rattle.copies.specs.inner.Ready.{Ready, unfoldedIn}
 use Rattle.copies.specs.declared.EntryCopy.{EntryCopy}
 use Rattle.copies.specs.declared.KeptRules.{KeptRules}
@@ -38,22 +38,22 @@ copyOf t q i e past = record { atom = getD q i 0; var = variable (programIn t) e
 abbrev pub extraOf : List ℕ → ℕ → ℕ → ℕ
 extraOf q i e = cond (again q i) (suc e) e
 
--- The loop over the entries from i on: the set of the atoms with a copy, and what holds of the copies made so far and of those that are left.
-pub record CopiesLeft (t : ProgramTable) (q : List ℕ) (i copied-set : ℕ) (Rest : ℕ → List Copy → List Copy → Type 0) : Type 0 where
+-- The loop over the entries from i on: the set of the atoms whose latest copy keeps a rule, and what holds of the copies made so far and of those that are left.
+pub record CopiesLeft (t : ProgramTable) (q : List ℕ) (i keeping : ℕ) (Rest : ℕ → List Copy → List Copy → Type 0) : Type 0 where
   pub past : List Copy
   pub extra : ℕ
   pub copies : List Copy
-  pub marks : (b : ℕ) → has copied-set b ≡ copied past b
+  pub marks : (b : ℕ) → has keeping b ≡ latestKeeps past b
   pub from : 3 ≤ i
   pub few : extra + 3 ≤ i
   pub left : copies ≡ copiesFrom (programIn t) extra past (drop i q)
   pub rest : Rest extra past copies
 
 pub copies-start : (t : ProgramTable) (q : List ℕ) (Rest : ℕ → List Copy → List Copy → Type 0) → Rest 0 [] (unfoldedIn t q .copies) → CopiesLeft t q 3 0 Rest
-unfolding unfoldedIn unfolded copied any
+unfolding unfoldedIn unfolded latestKeeps
 copies-start t q Rest r = record { past = []; extra = 0; copies = unfoldedIn t q .copies; marks = zero-has; from = omega arith; few = omega arith; left = refl; rest = r }
 
-module _ (t : ProgramTable) (q : List ℕ) (i copied-set : ℕ) (Rest : ℕ → List Copy → List Copy → Type 0) (L : CopiesLeft t q i copied-set Rest) where
+module _ (t : ProgramTable) (q : List ℕ) (i keeping : ℕ) (Rest : ℕ → List Copy → List Copy → Type 0) (L : CopiesLeft t q i keeping Rest) where
   pub copies-end : length q ≤ i → Rest (L .extra) (L .past) []
   unfolding copiesFrom
   copies-end l = subst (Rest (L .extra) (L .past)) (L .left ∙ ap (copiesFrom (programIn t) (L .extra) (L .past)) (drop-of-length-le q l)) (L .rest)
@@ -78,15 +78,15 @@ module _ (t : ProgramTable) (q : List ℕ) (i copied-set : ℕ) (Rest : ℕ → 
     extra-few false = let f = L .few in omega arith
 
     -- One copy more.
-    pub copies-turn : (a next : ℕ) (Rest′ : ℕ → List Copy → List Copy → Type 0) → a ≡ getD q i 0 → With copied-set a next
+    pub copies-turn : (a rules next : ℕ) (Rest′ : ℕ → List Copy → List Copy → Type 0) → a ≡ getD q i 0 → length (here .kept) ≡ rules → Marked keeping a rules next
         → ((cs : List Copy) → Rest (L .extra) (L .past) (here ∷ cs) → Rest′ (extraOf q i (L .extra)) (here ∷ L .past) cs) → CopiesLeft t q (i + 1) next Rest′
-    unfolding copied any
-    copies-turn a next Rest′ e W f =
+    unfolding latestKeeps
+    copies-turn a rules next Rest′ e k M f =
         record {
           past = here ∷ L .past;
           extra = extraOf q i (L .extra);
           copies = behind;
-          marks = λ b. W .members b ∙ ap₂ (λ (x y : Bool). x || y) (ap (eqb b) e ∙ flip b (getD q i 0)) (L .marks b);
+          marks = λ b. M .members b ∙ rw (ap (eqb b) e ∙ flip b (getD q i 0), sym k, L .marks b) refl;
           from = let g = L .from in omega arith;
           few = extra-few (again q i);
           left = refl;
@@ -170,8 +170,8 @@ module _ (t : ProgramTable) (names sets q : List ℕ) (R : Ready t names sets q)
       most false = omega arith
 
   -- The rules of the copy, over the variables that stand in them.
-  module _ (copied-set : ℕ) (marks : (b : ℕ) → has copied-set b ≡ copied past b) (k : KeptRules)
-      (K : Kept (t .heads) (t .pos) (t .rules) (c .atom) (c .component) copied-set k)
+  module _ (keeping : ℕ) (marks : (b : ℕ) → has keeping b ≡ latestKeeps past b) (k : KeptRules)
+      (K : Kept (t .heads) (t .pos) (t .rules) (c .atom) (c .component) keeping k)
       (lasts vars : List ℕ) (F : Values last lasts) (O : Overlaid (c .component) table lasts vars) where
     stands : (b : ℕ) → b < t .atoms → getD vars b 0 ≡ replaced (programIn t) past (getD q i 0) b
     unfolding replaced
@@ -183,9 +183,9 @@ module _ (t : ProgramTable) (names sets q : List ℕ) (R : Ready t names sets q)
 
     pub copy-is : copyOf t q i e past ≡ record { atom = c .atom; var = c .var; kept = bodiesBy (t .pos) (t .neg) (t .added) vars (k .entries) (k .rules) }
     copy-is =
-        let at-atom = subst (λ x. Kept (t .heads) (t .pos) (t .rules) x (componentSet names sets x) copied-set k) (M .atom)
-        (subst (λ x. Kept (t .heads) (t .pos) (t .rules) (c .atom) x copied-set k) (M .component) K) in
-        let bodies = kept-bodies t names sets q R past copied-set marks (getD q i 0) a-low k at-atom vars stands in
+        let at-atom = subst (λ x. Kept (t .heads) (t .pos) (t .rules) x (componentSet names sets x) keeping k) (M .atom)
+        (subst (λ x. Kept (t .heads) (t .pos) (t .rules) (c .atom) x keeping k) (M .component) K) in
+        let bodies = kept-bodies t names sets q R past keeping marks (getD q i 0) a-low k at-atom vars stands in
         rw (M .atom, var-is, bodies) refl
 
     pub vars-small : (b : ℕ) → b < 64 → getD vars b 0 < 1024

@@ -1,11 +1,11 @@
 -- Laws of the rules kept for a copy.
-use mathlib.Core.Bool.{Bool, true, false, not, _||_, cond}
+use mathlib.Core.Bool.{Bool, true, false, not, _&&_, _||_, cond}
 use mathlib.Core.List.{List, [], _∷_, _++_, map, append-assoc, append-nil, List·Memᴰ, List·Memᴰ·head, List·Memᴰ·tail}
 use mathlib.Core.Path.{_≡_, refl, sym, _∙_, ap, subst}
 use Prim.Native.Nat.{ℕ, zero, suc, _+_, _-_, _*_, _^_, _≤_, _<_}
 use native.Mathlib.Omega.{arith}
 use borrow.Author.Tests.{eq-eqb, ne-eqb, eqb-true, eqb-false}
-use lib.Dec.{eqb}
+use lib.Dec.{eqb, ltb}
 use lib.ListN.{length, length-append, length-map, getD, set, length-set, replicate, length-replicate, getD-replicate}
 use Rattle.lists.specs.Lists.{filter, range}
 use Rattle.lists.proofs.Bools.{by-bool, bool-ext, true-false}
@@ -13,26 +13,26 @@ use Rattle.lists.proofs.Members.{all-at, all-intro, member-in, member-out, rang
 use Rattle.lists.proofs.Nodup.{length-range}
 use Rattle.lists.proofs.Tables.{table-same, table-more}
 use Rattle.asp.specs.Program.{Body}
-use Rattle.bits.specs.inner.Sets.{has, Size, Both, Subset}
+use Rattle.bits.specs.inner.Sets.{has, WithIf, Without, Size, Both, Subset}
 use Rattle.bits.specs.inner.Visited.{listed}
 use Rattle.bits.proofs.Visiting.{listed-few, listed-member}
 use Rattle.program.specs.inner.Held.{addedAtom, bodyOf, bodiesAt}
 use Rattle.copies.specs.inner.Bodies.{entryBody, bodiesBy, negativeAtoms, bodyAtoms, atomCount, atomsAt}
 use Rattle.copies.proofs.Tables.{stored}
-use Rattle.copies.specs.inner.Kept.{keeps, keptEntries, Inside, ListedAt, Kept, SmallSizes, SizesOf, sumAt, KeptCounted}
+use Rattle.copies.specs.inner.Kept.{keeps, Marked, keptEntries, Inside, ListedAt, Kept, SmallSizes, SizesOf, sumAt, KeptCounted}
 
 -- Whether a rule is kept.
-module _ (a component copied head pos : ℕ) where
-  pub kept-head : (h : ℕ) → h ≡ head → (h ≡ a → ⊥) → false ≡ keeps a component copied head pos
+module _ (a component keeping head pos : ℕ) where
+  pub kept-head : (h : ℕ) → h ≡ head → (h ≡ a → ⊥) → false ≡ keeps a component keeping head pos
   unfolding keeps
   kept-head h e ne = sym (rw (ne-eqb head a (λ f. ne (e ∙ f))) refl)
 
-  pub kept-positives : (h both : ℕ) (r : Bool) → pos < 2 ^ 64 → h ≡ head → h ≡ a → Both pos component both → Subset both copied r → r ≡ keeps a component copied head pos
+  pub kept-positives : (h both : ℕ) (r : Bool) → pos < 2 ^ 64 → h ≡ head → h ≡ a → Both pos component both → Subset both keeping r → r ≡ keeps a component keeping head pos
   unfolding keeps
   kept-positives h both r l e f B S =
       rw (eq-eqb head a (sym e ∙ f))
       (bool-ext
-      (λ t. all-intro (λ b. not (has component b) || has copied b) (listed pos)
+      (λ t. all-intro (λ b. not (has component b) || has keeping b) (listed pos)
       (λ b m. by-bool (has component b)
       (λ c. rw c (S .inside t b (B .members b ∙ rw (sym (listed-member pos b l) ∙ member-in b (listed pos) m, c) refl)))
       (λ c. rw c refl)))
@@ -40,9 +40,19 @@ module _ (a component copied head pos : ℕ) where
       let p = B .members b in
       by-bool (has pos b)
       (λ k. by-bool (has component b)
-      (λ c. let u = all-at (λ b. not (has component b) || has copied b) (listed pos) t b (member-out b (listed pos) (listed-member pos b l ∙ k)) in rw c at u)
+      (λ c. let u = all-at (λ b. not (has component b) || has keeping b) (listed pos) t b (member-out b (listed pos) (listed-member pos b l ∙ k)) in rw c at u)
       (λ c. absurd (true-false h (p ∙ rw (k, c) refl))))
       (λ k. absurd (true-false h (p ∙ rw k refl))))))
+
+-- The set without a, and then with it where a rule is kept.
+pub marked : (keeping a rules off r : ℕ) (b : Bool) → b ≡ ltb 0 rules → Without keeping a off → WithIf off a b r → Marked keeping a rules r
+marked keeping a rules off r b e W I = record { members = λ p. I .members p ∙ rw (W .members p, e) (either (has keeping p) (eqb p a) (ltb 0 rules)) }
+  where
+    either : (x here y : Bool) → (x && not here || here && y) ≡ cond here y x
+    either true true y = refl
+    either true false y = refl
+    either false true y = refl
+    either false false y = refl
 
 -- At most one atom is added.
 pub added-few : (added : ℕ) → length (addedAtom added) ≤ 1
@@ -91,16 +101,16 @@ unfolding atomCount bodyOf bodyAtoms negativeAtoms
 atoms-one pos neg added = let e = length-append (listed neg) (addedAtom added) in omega arith
 
 -- The loop over the rules: of the first j these are kept.
-pub record Keeping (heads pos : List ℕ) (rules a component copied j : ℕ) (entries : List ℕ) (kept : ℕ) : Type 0 where
+pub record Keeping (heads pos : List ℕ) (rules a component keeping j : ℕ) (entries : List ℕ) (kept : ℕ) : Type 0 where
   pub long : length entries ≡ 192
   pub few : kept ≤ j
   pub within : j ≤ rules
   pub low : (i : ℕ) → i < kept → getD entries i 0 < 192
-  pub rest : map (λ j. getD entries j 0) (range 0 kept) ++ filter (λ i. keeps a component copied (getD heads i 0) (getD pos i 0)) (range j (rules - j)) ≡ keptEntries heads pos rules a component copied
+  pub rest : map (λ j. getD entries j 0) (range 0 kept) ++ filter (λ i. keeps a component keeping (getD heads i 0) (getD pos i 0)) (range j (rules - j)) ≡ keptEntries heads pos rules a component keeping
 
-module _ (heads pos : List ℕ) (rules a component copied : ℕ) where
+module _ (heads pos : List ℕ) (rules a component keeping : ℕ) where
   abbrev keep : ℕ → Bool
-  keep i = keeps a component copied (getD heads i 0) (getD pos i 0)
+  keep i = keeps a component keeping (getD heads i 0) (getD pos i 0)
 
   abbrev left : ℕ → List ℕ
   left j = filter keep (range j (rules - j))
@@ -108,7 +118,7 @@ module _ (heads pos : List ℕ) (rules a component copied : ℕ) where
   abbrev firsts : List ℕ → ℕ → List ℕ
   firsts entries k = map (λ j. getD entries j 0) (range 0 k)
 
-  left-all : left 0 ≡ keptEntries heads pos rules a component copied
+  left-all : left 0 ≡ keptEntries heads pos rules a component keeping
   unfolding keptEntries
   left-all = ap (λ k. filter keep (range 0 k)) (let e : rules - 0 ≡ rules = omega arith in e)
 
@@ -124,7 +134,7 @@ module _ (heads pos : List ℕ) (rules a component copied : ℕ) where
   unfolding filter
   left-none j l = ap (filter keep) (range-over j rules l)
 
-  pub keeping-start : Keeping heads pos rules a component copied 0 (replicate 192 0) 0
+  pub keeping-start : Keeping heads pos rules a component keeping 0 (replicate 192 0) 0
   unfolding range
   keeping-start =
       record {
@@ -135,13 +145,13 @@ module _ (heads pos : List ℕ) (rules a component copied : ℕ) where
         rest = left-all;
       }
 
-  module _ (j : ℕ) (entries : List ℕ) (kept : ℕ) (K : Keeping heads pos rules a component copied j entries kept) where
+  module _ (j : ℕ) (entries : List ℕ) (kept : ℕ) (K : Keeping heads pos rules a component keeping j entries kept) where
     module _ (lt : j < rules) (most : rules ≤ 192) where
       index : kept < length entries
       index = let f = K .few in let l = K .long in omega arith
 
       abbrev Next : ℕ → Type 0
-      Next = Keeping heads pos rules a component copied (j + 1) (set entries kept j)
+      Next = Keeping heads pos rules a component keeping (j + 1) (set entries kept j)
 
       low-more : (i : ℕ) → i < kept + 1 → getD (set entries kept j) i 0 < 192
       low-more i h = subst (λ x. x < 192) (sym (stored entries kept j i index)) (by-bool (eqb i kept) (λ t. rw t (omega arith)) (λ f. rw f (let ne = eqb-false i kept f in K .low i (omega arith))))
@@ -167,10 +177,10 @@ module _ (heads pos : List ℕ) (rules a component copied : ℕ) where
             rest = ap (λ es. es ++ left (j + 1)) (table-same (λ i. i) entries kept j) ∙ (ap (λ es. firsts entries kept ++ es) (sym (left-no j lt f)) ∙ K .rest);
           }
 
-      pub keeping-turn : (b : Bool) (kept′ : ℕ) → b ≡ keeps a component copied (getD heads j 0) (getD pos j 0) → kept′ ≡ cond b (kept + 1) kept → Next kept′
+      pub keeping-turn : (b : Bool) (kept′ : ℕ) → b ≡ keeps a component keeping (getD heads j 0) (getD pos j 0) → kept′ ≡ cond b (kept + 1) kept → Next kept′
       keeping-turn b kept′ e f = by-bool b (λ t. rw (f, t) (yes (sym e ∙ t))) (λ t. rw (f, t) (no (sym e ∙ t)))
 
-    pub keeping-end : rules ≤ j → rules ≤ 192 → Kept heads pos rules a component copied (record { entries = entries; rules = kept })
+    pub keeping-end : rules ≤ j → rules ≤ 192 → Kept heads pos rules a component keeping (record { entries = entries; rules = kept })
     keeping-end l most =
         record {
           entries = sym (append-nil (firsts entries kept)) ∙ (ap (λ es. firsts entries kept ++ es) (sym (left-none j l)) ∙ K .rest);
@@ -180,7 +190,7 @@ module _ (heads pos : List ℕ) (rules a component copied : ℕ) where
   -- The loop over the rules that only counts: with those that are left the numbers are those of all.
   module _ (sizes : List ℕ) where
     abbrev kept-all : List ℕ
-    kept-all = keptEntries heads pos rules a component copied
+    kept-all = keptEntries heads pos rules a component keeping
 
     pub record CountedLeft (kept atoms j : ℕ) : Type 0 where
       pub few : kept ≤ j
@@ -218,14 +228,14 @@ module _ (heads pos : List ℕ) (rules a component copied : ℕ) where
             let v = K .low in
             record { few = omega arith; low = omega arith; number = omega arith; sum = omega arith }
 
-        pub counted-turn : (b : Bool) (kept′ atoms′ k : ℕ) → b ≡ keeps a component copied (getD heads j 0) (getD pos j 0) → k ≡ getD sizes j 0
+        pub counted-turn : (b : Bool) (kept′ atoms′ k : ℕ) → b ≡ keeps a component keeping (getD heads j 0) (getD pos j 0) → k ≡ getD sizes j 0
             → kept′ ≡ cond b (kept + 1) kept → atoms′ ≡ cond b (atoms + k) atoms → CountedLeft kept′ atoms′ (j + 1)
         counted-turn b kept′ atoms′ k e z f g =
             by-bool b
             (λ t. rw (f, g, z, t) (counted-yes (sym e ∙ t)))
             (λ t. rw (f, g, t) (counted-no (sym e ∙ t)))
 
-      pub counted-end : rules ≤ j → KeptCounted heads pos sizes rules a component copied (record { rules = kept; atoms = atoms })
+      pub counted-end : rules ≤ j → KeptCounted heads pos sizes rules a component keeping (record { rules = kept; atoms = atoms })
       unfolding sumAt
       counted-end l =
           let e = ap length (left-none j l) in

@@ -12,7 +12,7 @@ use Rattle.lists.proofs.Bools.{by-bool, bool-ext, and-left, and-right}
 use Rattle.lists.proofs.Members.{all-at, all-cong, map-cong, filter-cong, filter-out, range-in, range-out, below-at}
 use Rattle.asp.specs.Program.{Body, Rule, Program, bodyBelow, ruleBelow, wellFormed}
 use Rattle.unfolding.specs.Graph.{sameComponent, component}
-use Rattle.unfolding.specs.Unfolded.{Copy, last, copied, usable, replaced, renamed, isKept, keptFor}
+use Rattle.unfolding.specs.Unfolded.{Copy, last, latestKeeps, usable, replaced, renamed, isKept, keptFor}
 use Rattle.unfolding.proofs.Reach.{same-refl, component-smallest, component-same, component-joins}
 use Rattle.bits.specs.inner.Sets.{has}
 use Rattle.bits.specs.inner.Visited.{listed}
@@ -72,21 +72,21 @@ module _ (t : ProgramTable) (names sets q : List ℕ) (R : Ready t names sets q)
       (λ e. component-joins P wf a b l h (sym (eqb-true (component P b) (component P a) e)))
       (λ s. eq-eqb (component P b) (component P a) (sym (component-same P wf a b l s))))
 
-  module _ (past : List Copy) (copied-set : ℕ) (marks : (b : ℕ) → has copied-set b ≡ copied past b) (a : ℕ) (within : a < t .atoms) where
+  module _ (past : List Copy) (keeping : ℕ) (marks : (b : ℕ) → has keeping b ≡ latestKeeps past b) (a : ℕ) (within : a < t .atoms) where
     abbrev entries : List ℕ
-    entries = keptEntries (t .heads) (t .pos) (t .rules) a (componentSet names sets a) copied-set
+    entries = keptEntries (t .heads) (t .pos) (t .rules) a (componentSet names sets a) keeping
 
     abbrev body : ℕ → Body
     body i = bodyOf (getD (t .pos) i 0) (getD (t .neg) i 0) (getD (t .added) i 0)
 
     same-test : (i : ℕ) → i < t .rules → isKept P past a (ruleOf (getD (t .heads) i 0) (getD (t .pos) i 0) (getD (t .neg) i 0) (getD (t .added) i 0))
-        ≡ keeps a (componentSet names sets a) copied-set (getD (t .heads) i 0) (getD (t .pos) i 0)
+        ≡ keeps a (componentSet names sets a) keeping (getD (t .heads) i 0) (getD (t .pos) i 0)
     unfolding isKept keeps ruleOf bodyOf usable
     same-test i l =
         ap (λ (x : Bool). eqb (getD (t .heads) i 0) a && x)
-        (all-cong (usable P past a) (λ b. not (has (componentSet names sets a) b) || has copied-set b) (listed (getD (t .pos) i 0)) each)
+        (all-cong (usable P past a) (λ b. not (has (componentSet names sets a) b) || has keeping b) (listed (getD (t .pos) i 0)) each)
       where
-        each : (b : ℕ) → List·Memᴰ b (listed (getD (t .pos) i 0)) → usable P past a b ≡ (not (has (componentSet names sets a) b) || has copied-set b)
+        each : (b : ℕ) → List·Memᴰ b (listed (getD (t .pos) i 0)) → usable P past a b ≡ (not (has (componentSet names sets a) b) || has keeping b)
         each b m =
             let h = below-at (t .atoms) (listed (getD (t .pos) i 0)) (rule-low i l) b m in
             ap₂ (λ (x y : Bool). not x || y) (sym (component-has a b within h)) (sym (marks b))
@@ -98,25 +98,25 @@ module _ (t : ProgramTable) (names sets q : List ℕ) (R : Ready t names sets q)
         ap (map (λ (r : Rule). renamed (replaced P past a) (r .body))) (filter-map (isKept P past a) rule (range 0 (t .rules)))
         ∙ (map-map (λ (r : Rule). renamed (replaced P past a) (r .body)) rule (filter (λ i. isKept P past a (rule i)) (range 0 (t .rules)))
         ∙ ap (map (λ i. renamed (replaced P past a) (body i)))
-        (filter-cong (λ i. isKept P past a (rule i)) (λ i. keeps a (componentSet names sets a) copied-set (getD (t .heads) i 0) (getD (t .pos) i 0)) (range 0 (t .rules))
+        (filter-cong (λ i. isKept P past a (rule i)) (λ i. keeps a (componentSet names sets a) keeping (getD (t .heads) i 0) (getD (t .pos) i 0)) (range 0 (t .rules))
         (λ i m. let r = range-out 0 (t .rules) i m .high in same-test i (omega arith))))
 
     -- An entry that is kept is one of a rule.
     entry-low : (i : ℕ) → List·Memᴰ i entries → i < t .rules
     unfolding keptEntries
     entry-low i m =
-        let f = filter-out (λ i. keeps a (componentSet names sets a) copied-set (getD (t .heads) i 0) (getD (t .pos) i 0)) (range 0 (t .rules)) i m .0 in
+        let f = filter-out (λ i. keeps a (componentSet names sets a) keeping (getD (t .heads) i 0) (getD (t .pos) i 0)) (range 0 (t .rules)) i m .0 in
         let x = range-out 0 (t .rules) i f .high in
         omega arith
 
-    module _ (sizes : List ℕ) (S : SizesOf (t .pos) (t .neg) (t .added) (t .rules) sizes) (r : KeptNumbers) (N : KeptCounted (t .heads) (t .pos) sizes (t .rules) a (componentSet names sets a) copied-set r) where
+    module _ (sizes : List ℕ) (S : SizesOf (t .pos) (t .neg) (t .added) (t .rules) sizes) (r : KeptNumbers) (N : KeptCounted (t .heads) (t .pos) sizes (t .rules) a (componentSet names sets a) keeping r) where
       pub kept-number : length (keptFor P past a) ≡ r .rules
       kept-number = ap length kept-are ∙ (length-map entries (λ i. renamed (replaced P past a) (body i)) ∙ sym (N .number))
 
       pub kept-atoms : atomCount (keptFor P past a) ≡ r .atoms
       kept-atoms = ap atomCount kept-are ∙ (atoms-renamed (replaced P past a) body entries ∙ sym (N .sum ∙ sum-atoms (t .pos) (t .neg) (t .added) (t .rules) sizes S entries entry-low))
 
-    module _ (r : KeptRules) (K : Kept (t .heads) (t .pos) (t .rules) a (componentSet names sets a) copied-set r) where
+    module _ (r : KeptRules) (K : Kept (t .heads) (t .pos) (t .rules) a (componentSet names sets a) keeping r) where
       pub kept-bodies : (vars : List ℕ) → ((b : ℕ) → b < t .atoms → getD vars b 0 ≡ replaced P past a b) → keptFor P past a ≡ bodiesBy (t .pos) (t .neg) (t .added) vars (r .entries) (r .rules)
       unfolding bodiesBy keptEntries entryBody bodyBy renamed bodyOf
       kept-bodies vars h =

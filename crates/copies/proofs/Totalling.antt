@@ -6,12 +6,12 @@ use native.Mathlib.Omega.{arith}
 use lib.ListN.{length, length-append, getD}
 use Rattle.asp.specs.Program.{Body}
 use Rattle.unfolding.specs.Unfolded.{Copy, keptFor}
-use Rattle.bits.specs.inner.Sets.{ByteAt, With}
+use Rattle.bits.specs.inner.Sets.{ByteAt}
 use Rattle.program.specs.inner.Held.{programIn}
 use Rattle.program.specs.declared.ProgramTable.{ProgramTable}
 use Rattle.copies.specs.inner.Bodies.{atomCount, atomsAt}
 use Rattle.copies.specs.inner.Made.{componentSet}
-use Rattle.copies.specs.inner.Kept.{SizesOf, KeptCounted}
+use Rattle.copies.specs.inner.Kept.{Marked, SizesOf, KeptCounted}
 use Rattle.copies.specs.inner.Ready.{Ready, unfoldedIn}
 use Rattle.copies.specs.inner.Totals.{keptBodies, KeptTotals, TotalsOf}
 use Rattle.copies.specs.declared.KeptNumbers.{KeptNumbers}
@@ -27,13 +27,13 @@ pub record TotalsLeft (all-copies : List Copy) (rules atoms : ℕ) (extra : ℕ)
   pub atoms-left : atoms + atomCount (keptBodies copies) ≡ atomCount (keptBodies all-copies)
 
 abbrev pub Totalling : ProgramTable → List ℕ → ℕ → ℕ → ℕ → ℕ → Type 0
-Totalling t q i copied rules atoms = CopiesLeft t q i copied (TotalsLeft (unfoldedIn t q .copies) rules atoms)
+Totalling t q i keeping rules atoms = CopiesLeft t q i keeping (TotalsLeft (unfoldedIn t q .copies) rules atoms)
 
 module _ (t : ProgramTable) (names sets q : List ℕ) (R : Ready t names sets q) where
   pub totalling-start : Totalling t q 3 0 0 0
   totalling-start = copies-start t q (TotalsLeft (unfoldedIn t q .copies) 0 0) (record { rules-left = omega arith; atoms-left = omega arith })
 
-  module _ (i copied rules atoms : ℕ) (L : Totalling t q i copied rules atoms) where
+  module _ (i keeping rules atoms : ℕ) (L : Totalling t q i keeping rules atoms) where
     module _ (within : i < length q) (a : ℕ) (A : ByteAt q i a) where
       a-low : a < t .atoms
       a-low = subst (λ x. x < t .atoms) (sym (A .is)) (entry-atom t names sets q R i (L .from) within)
@@ -45,16 +45,19 @@ module _ (t : ProgramTable) (names sets q : List ℕ) (R : Ready t names sets q)
       totalling-name = name-low t names sets q R a a-low
 
       module _ (component : ℕ) (C : component ≡ componentSet names sets a) (sizes : List ℕ) (S : SizesOf (t .pos) (t .neg) (t .added) (t .rules) sizes)
-          (r : KeptNumbers) (K : KeptCounted (t .heads) (t .pos) sizes (t .rules) a component copied r) where
+          (r : KeptNumbers) (K : KeptCounted (t .heads) (t .pos) sizes (t .rules) a component keeping r) where
         abbrev kept : List Body
         kept = keptFor (programIn t) (L .past) (getD q i 0)
 
-        K′ : KeptCounted (t .heads) (t .pos) sizes (t .rules) (getD q i 0) (componentSet names sets (getD q i 0)) copied r
-        K′ = subst (λ x. KeptCounted (t .heads) (t .pos) sizes (t .rules) x (componentSet names sets x) copied r) (A .is)
-            (subst (λ x. KeptCounted (t .heads) (t .pos) sizes (t .rules) a x copied r) C K)
+        K′ : KeptCounted (t .heads) (t .pos) sizes (t .rules) (getD q i 0) (componentSet names sets (getD q i 0)) keeping r
+        K′ = subst (λ x. KeptCounted (t .heads) (t .pos) sizes (t .rules) x (componentSet names sets x) keeping r) (A .is)
+            (subst (λ x. KeptCounted (t .heads) (t .pos) sizes (t .rules) a x keeping r) C K)
 
         low : getD q i 0 < t .atoms
         low = entry-atom t names sets q R i (L .from) within
+
+        number : length kept ≡ r .rules
+        number = kept-number t names sets q R (L .past) keeping (L .marks) (getD q i 0) low sizes S r K′
 
         counted : (all-copies cs : List Copy) (e var atom : ℕ) → TotalsLeft all-copies rules atoms e (L .past) (record { atom = atom; var = var; kept = kept } ∷ cs)
             → (e′ : ℕ) (past : List Copy) → TotalsLeft all-copies (rules + r .rules) (atoms + r .atoms) e′ past cs
@@ -64,8 +67,8 @@ module _ (t : ProgramTable) (names sets q : List ℕ) (R : Ready t names sets q)
             let v = T .atoms-left in
             let f = length-append kept (keptBodies cs) in
             let g = atoms-append kept (keptBodies cs) in
-            let h = kept-number t names sets q R (L .past) copied (L .marks) (getD q i 0) low sizes S r K′ in
-            let k = kept-atoms t names sets q R (L .past) copied (L .marks) (getD q i 0) low sizes S r K′ in
+            let h = number in
+            let k = kept-atoms t names sets q R (L .past) keeping (L .marks) (getD q i 0) low sizes S r K′ in
             record { rules-left = omega arith; atoms-left = omega arith }
 
         sums : (cs : List Copy) → TotalsLeft (unfoldedIn t q .copies) (rules + r .rules) (atoms + r .atoms) 0 [] cs → (rules + r .rules ≤ 122880) × (atoms + r .atoms ≤ 15851520)
@@ -77,7 +80,7 @@ module _ (t : ProgramTable) (names sets q : List ℕ) (R : Ready t names sets q)
             (omega arith, omega arith)
 
         small : (rules + r .rules ≤ 122880) × (atoms + r .atoms ≤ 15851520)
-        small = sums _ (counted (unfoldedIn t q .copies) _ _ _ _ (copies-here t q i copied (TotalsLeft (unfoldedIn t q .copies) rules atoms) L within) 0 [])
+        small = sums _ (counted (unfoldedIn t q .copies) _ _ _ _ (copies-here t q i keeping (TotalsLeft (unfoldedIn t q .copies) rules atoms) L within) 0 [])
 
         pub totalling-rules : rules + r .rules < 2 ^ 64
         totalling-rules = let f = small .0 in omega arith
@@ -85,14 +88,14 @@ module _ (t : ProgramTable) (names sets q : List ℕ) (R : Ready t names sets q)
         pub totalling-atoms : atoms + r .atoms < 2 ^ 64
         totalling-atoms = let f = small .1 in omega arith
 
-        pub totalling-turn : (next : ℕ) → With copied a next → Totalling t q (i + 1) next (rules + r .rules) (atoms + r .atoms)
-        totalling-turn next W =
-            copies-turn t q i copied (TotalsLeft (unfoldedIn t q .copies) rules atoms) L within a next _ (A .is) W
+        pub totalling-turn : (next : ℕ) → Marked keeping a (r .rules) next → Totalling t q (i + 1) next (rules + r .rules) (atoms + r .atoms)
+        totalling-turn next M =
+            copies-turn t q i keeping (TotalsLeft (unfoldedIn t q .copies) rules atoms) L within a (r .rules) next _ (A .is) number M
             (λ cs T. counted (unfoldedIn t q .copies) cs _ _ _ T _ _)
 
     pub totalling-end : length q ≤ i → KeptTotals (unfoldedIn t q) (record { rules = rules; atoms = atoms; constraints = 0; literals = 0 })
     unfolding flatMap atomCount
-    totalling-end l = all-counted (copies-end t q i copied (TotalsLeft (unfoldedIn t q .copies) rules atoms) L l)
+    totalling-end l = all-counted (copies-end t q i keeping (TotalsLeft (unfoldedIn t q .copies) rules atoms) L l)
       where
         all-counted : TotalsLeft (unfoldedIn t q .copies) rules atoms (L .extra) (L .past) [] → KeptTotals (unfoldedIn t q) (record { rules = rules; atoms = atoms; constraints = 0; literals = 0 })
         all-counted T = let e = T .rules-left in let f = T .atoms-left in record { rules = omega arith; atoms = omega arith }

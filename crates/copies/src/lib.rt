@@ -6,7 +6,8 @@ use bits::rest;
 use bits::size;
 use bits::subset;
 use bits::wide;
-use bits::with;
+use bits::with_if;
+use bits::without;
 use program::ProgramTable;
 ghost use mathlib.Core.Bool.{true, cond};
 ghost use mathlib.Core.Path.{_≡_};
@@ -18,7 +19,7 @@ ghost use Rattle.sheet.specs.Sequence.{entries};
 ghost use Rattle.copies.specs.inner.Tables.{Values, Overlaid};
 ghost use Rattle.copies.specs.inner.Bodies.{negativeAtoms, bodyAtoms, atomsAt};
 ghost use Rattle.copies.specs.inner.Made.{EntryAt, LastPlaces, componentSet, Made};
-ghost use Rattle.copies.specs.inner.Kept.{keeps, Inside, ListedAt, Kept, SmallSizes, SizesOf, KeptCounted};
+ghost use Rattle.copies.specs.inner.Kept.{keeps, Marked, Inside, ListedAt, Kept, SmallSizes, SizesOf, KeptCounted};
 ghost use Rattle.copies.specs.inner.Ready.{Ready, unfoldedIn};
 ghost use Rattle.copies.specs.inner.Totals.{KeptTotals, TotalsOf};
 
@@ -128,14 +129,14 @@ pub fn copy_at(
     }
 }
 
-// Is a rule kept for a copy of a: is a its head, and has every positive atom of a's component a copy so far?
-fn is_kept(head: u8, pos: u64, a: usize, component: u64, copied: u64) -> bool
-    ensures { λ r. ⌜ r ≡ keeps a component copied head pos ⌝ }
+// Is a rule kept for a copy of a: is a its head, and does the latest copy of every positive atom of a's component keep a rule?
+fn is_kept(head: u8, pos: u64, a: usize, component: u64, keeping: u64) -> bool
+    ensures { λ r. ⌜ r ≡ keeps a component keeping head pos ⌝ }
 {
     if wide(head) != a {
         return false;
     }
-    subset(intersection(pos, component), copied)
+    subset(intersection(pos, component), keeping)
 }
 
 // How many negative atoms a body has, with one that may be added.
@@ -167,6 +168,14 @@ fn add_if(b: bool, x: usize, k: usize) -> usize
     x
 }
 
+// The atoms whose latest copy keeps a rule, behind a copy of a that keeps so many.
+pub fn mark(keeping: u64, a: usize, rules: usize) -> u64
+    requires { ⌜ a < 64 ⌝ }
+    ensures { λ r. ⌜ Marked keeping a rules r ⌝ }
+{
+    with_if(without(keeping, a), a, 0 < rules)
+}
+
 // The rules kept for a copy, by their entries in the table, and how many there are.
 pub struct KeptRules {
     pub entries: [u8; 192],
@@ -188,16 +197,16 @@ pub fn kept_rules<'a>(
     rules: usize,
     a: usize,
     component: u64,
-    copied: u64,
+    keeping: u64,
 ) -> KeptRules
     requires { ⌜ rules ≤ 192 ⌝ }
-    ensures { λ r. ⌜ Kept (now (heads .entry)) (now (pos .entry)) rules a component copied r ⌝ }
+    ensures { λ r. ⌜ Kept (now (heads .entry)) (now (pos .entry)) rules a component keeping r ⌝ }
 {
     let mut entries = [0u8; 192];
     let mut kept = 0;
     let mut j = 0;
     while j < rules {
-        let keep = is_kept(heads[j], pos[j], a, component, copied);
+        let keep = is_kept(heads[j], pos[j], a, component, keeping);
         entries[kept] = j as u8;
         kept = add_if(keep, kept, 1);
         j += 1;
@@ -246,16 +255,16 @@ fn kept_numbers<'a>(
     rules: usize,
     a: usize,
     component: u64,
-    copied: u64,
+    keeping: u64,
 ) -> KeptNumbers
     requires { ⌜ (rules ≤ 192) × SmallSizes (now sizes) ⌝ }
-    ensures { λ r. ⌜ KeptCounted (now (heads .entry)) (now (pos .entry)) (now (sizes .entry)) rules a component copied r ⌝ }
+    ensures { λ r. ⌜ KeptCounted (now (heads .entry)) (now (pos .entry)) (now (sizes .entry)) rules a component keeping r ⌝ }
 {
     let mut kept = 0;
     let mut atoms = 0;
     let mut j = 0;
     while j < rules {
-        let keep = is_kept(heads[j], pos[j], a, component, copied);
+        let keep = is_kept(heads[j], pos[j], a, component, keeping);
         kept = add_if(keep, kept, 1);
         atoms = add_if(keep, atoms, wide(sizes[j]));
         j += 1;
@@ -279,17 +288,17 @@ fn kept_totals(t: ProgramTable, q: &[u8], names: &[u8; 64], sets: &[u64; 64]) ->
     let count = t.rules;
     let table = body_sizes(&t.pos, &t.neg, &t.added, count);
     let sizes = table.sizes;
-    let mut copied: u64 = 0;
+    let mut keeping: u64 = 0;
     let mut rules = 0;
     let mut atoms = 0;
     let mut i = 3;
     while i < q.len() {
         let a = byte_at(q, i);
         let component = component_of(names, sets, a);
-        let kept = kept_numbers(&t.heads, &t.pos, &sizes, count, a, component, copied);
+        let kept = kept_numbers(&t.heads, &t.pos, &sizes, count, a, component, keeping);
         rules += kept.rules;
         atoms += kept.atoms;
-        copied = with(copied, a);
+        keeping = mark(keeping, a, kept.rules);
         i += 1;
     }
     Totals {

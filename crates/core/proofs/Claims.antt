@@ -1,17 +1,27 @@
--- A sheet without choice rules is what it was.
+-- A sheet without choice rules is what it was, and what is written is no longer than it was.
 use mathlib.Core.Bool.{_&&_, or-false}
-use mathlib.Core.List.{List, [], _∷_, map}
-use mathlib.Core.Path.{_≡_, refl, sym, _∙_}
-use Prim.Native.Nat.{ℕ, _+_}
+use mathlib.Core.List.{List, [], _∷_, map, Forall₂}
+use mathlib.Core.Path.{_≡_, refl, sym, _∙_, subst}
+use Prim.Native.Nat.{ℕ, _+_, _≤_}
 use native.Mathlib.Omega.{arith}
 use borrow.Author.Tests.{le-leb, leb-true}
 use lib.Dec.{eqb, leb}
+use lib.IntN.{ℤ}
+use lib.ListN.{length, take}
 use Rattle.lists.specs.Lists.{any, filter, member, range}
 use Rattle.lists.proofs.Bools.{by-bool, and-left}
 use Rattle.lists.proofs.Members.{any-filter, any-map, filter-cong}
 use Rattle.asp.specs.Program.{Rule}
+use Rattle.unfolding.specs.Unfolded.{Unfolded, unfolded, words}
+use Rattle.unfolding.specs.Decoded.{readUnfolded, nameless}
+use Rattle.unfolding.specs.Clauses.{clauses, variables, signedWords}
+use Rattle.unfolding.specs.Faithful.{clausesOf, variablesOf}
+use Rattle.unfolding.specs.Shortened.{unshortened, Shortens, Shortened}
+use Rattle.unfolding.proofs.Shortened.{nameless-shortens}
+use Rattle.unfolding.proofs.Claims.{unfolded-is-shortened}
 use Rattle.sheet.specs.Questions.{ask}
 use Rattle.sheet.specs.Format.{atomsByte, recordsByte, limited}
+use Rattle.sheet.specs.Sequence.{entries}
 use Rattle.sheet.specs.Sheet.{Record, ruleIn, records, choices, program}
 use Rattle.sheet.specs.declared.Limits.{Limits}
 use Rattle.sheet.proofs.Walk.{ask-passed}
@@ -19,8 +29,14 @@ use Rattle.choice.specs.Claims.{plainProgram}
 use Rattle.choice.proofs.Expanded.{without-choices}
 use Rattle.choice.proofs.Unique.{faithful-is-old}
 use Rattle.counting.specs.DecisionAtoms.{asksFor, decisionAtoms}
+use Rattle.core.specs.Outcome.{answered}
+use Rattle.core.specs.Outputs.{unfoldedOutput, clausesOutput, clauseNumbers}
 use Rattle.core.specs.Questions.{question3, question13}
-use Rattle.core.specs.Claims.{negatedAtoms, OldAnswersStay}
+use Rattle.core.specs.Calls.{unsigned, signed, values, Service}
+use Rattle.core.specs.Calls as call
+use Rattle.core.specs.Demands.{Demand1}
+use Rattle.core.specs.Claims.{negatedAtoms, OldAnswersStay, OutputsShorten}
+use Rattle.core.proofs.Demands.{succeeded, demand-2-of}
 
 -- What records ask for where none is a choice rule.
 asks-plain : (rs : List Record) (a : ℕ) → choices rs ≡ 0 → any (λ r. asksFor r a) rs ≡ any (λ r. eqb (r .kind) 0 && member a (r .body .neg)) rs
@@ -58,3 +74,37 @@ pub old-answers-stay : OldAnswersStay
 unfolding program
 old-answers-stay L s none =
     record { same = same L s none; thirteen = thirteen L s none; eleven = eleven L s none; faithful = faithful-is-old (atomsByte s) (records s) none }
+
+-- What is written is shortened.
+module _ (L : Limits) (S : Service) (D : Demand1 L S) (s q : List ℕ) where
+  abbrev was : Unfolded
+  was = unshortened (program s) (entries q)
+
+  shorter : Shortened (program s) (entries q)
+  shorter = unfolded-is-shortened (program s) (entries q)
+
+  unfolded-shorter : (old new : List ℕ) (l : ℕ) → S (call.unfolded s q old) (answered (l ∷ [])) (unsigned new)
+      → Forall₂ Shortens (readUnfolded (take l new) .copies) (nameless was .copies) × (l ≤ length (words was))
+  unfolding values unfoldedOutput nameless
+  unfolded-shorter old new l A =
+      let size : l ≡ length (words (unfolded (program s) (entries q))) = cc (succeeded L S D _ _ _ A .same) in
+      let back = demand-2-of L S D .unfolds s q old new l A .derived in
+      let few = shorter .fewer-words in
+      (subst (λ (U : Unfolded). Forall₂ Shortens (U .copies) (nameless was .copies)) (sym back) (nameless-shortens (shorter .copies)), omega arith)
+
+  clauses-shorter : (old new : List ℤ) (l v c : ℕ) → S (call.clauses s q old) (answered (l ∷ v ∷ c ∷ [])) (signed new)
+      → (l ≤ length (signedWords (clauses was))) × (v ≤ variables was) × (c ≤ length (clauses was))
+  unfolding values clausesOutput clauseNumbers clausesOf variablesOf
+  clauses-shorter old new l v c A =
+      let U = unfolded (program s) (entries q) in
+      let same : l ∷ v ∷ c ∷ [] ≡ length (signedWords (clauses U)) ∷ variables U ∷ length (clauses U) ∷ [] = succeeded L S D _ _ _ A .same in
+      let size : l ≡ length (signedWords (clauses U)) = cc same in
+      let variable : v ≡ variables U = cc same in
+      let number : c ≡ length (clauses U) = cc same in
+      let few-words = shorter .fewer-signed-words in
+      let few-variables = shorter .fewer-variables in
+      let few-clauses = shorter .fewer-clauses in
+      (omega arith, omega arith, omega arith)
+
+pub outputs-shorten : OutputsShorten
+outputs-shorten L S D = record { unfolds = λ s q. unfolded-shorter L S D s q; derives = λ s q. clauses-shorter L S D s q }

@@ -197,7 +197,7 @@ unfolding first
 none-other e = omega arith
 
 module _ (L : Limits) (S : Service) (D : Demand1 L S) where
-  succeeded : (c : Call) (vs : List ℕ) (b : Buffer) → S c (answered vs) b → Succeeded L c vs b
+  pub succeeded : (c : Call) (vs : List ℕ) (b : Buffer) → S c (answered vs) b → Succeeded L c vs b
   succeeded c vs b A = decided-answered L c vs b (D c (answered vs) b A)
 
   pub demand-2-of : Demand2 L S

@@ -1,18 +1,29 @@
 -- What is proved of the questions and demands beside the demands themselves; `proofs/Claims.antt` has the proof.
-use mathlib.Core.List.{List}
+use mathlib.Core.List.{List, [], _∷_, Forall₂}
 use mathlib.Core.Logic.{_↔_}
 use mathlib.Core.Path.{_≡_}
-use Prim.Native.Nat.{ℕ}
+use Prim.Native.Nat.{ℕ, _≤_}
+use lib.IntN.{ℤ}
+use lib.ListN.{length, take}
 use Rattle.lists.specs.Lists.{any, filter, member, range}
 use Rattle.asp.specs.Program.{Program}
+use Rattle.unfolding.specs.Unfolded.{words}
+use Rattle.unfolding.specs.Decoded.{readUnfolded, nameless}
+use Rattle.unfolding.specs.Clauses.{clauses, variables, signedWords}
 use Rattle.unfolding.specs.Faithful.{Faithful}
+use Rattle.unfolding.specs.Shortened.{unshortened, Shortens}
 use Rattle.sheet.specs.Format.{atomsByte}
+use Rattle.sheet.specs.Sequence.{entries}
 use Rattle.sheet.specs.Sheet.{records, choices, program}
 use Rattle.sheet.specs.declared.Limits.{Limits}
 use Rattle.choice.specs.Written.{WrittenFaithful}
 use Rattle.choice.specs.Claims.{plainProgram}
 use Rattle.counting.specs.DecisionAtoms.{decisionAtoms}
+use Rattle.core.specs.Outcome.{answered}
 use Rattle.core.specs.Questions.{question3, question13}
+use Rattle.core.specs.Calls.{unsigned, signed, Service}
+use Rattle.core.specs.Calls as call
+use Rattle.core.specs.Demands.{Demand1}
 
 -- The atoms that stand in the negative list of some rule.
 unfoldable pub negatedAtoms : Program → List ℕ
@@ -31,3 +42,19 @@ pub record AsBefore (L : Limits) (s : List ℕ) : Type 0 where
 
 abbrev pub OldAnswersStay : Type 0
 OldAnswersStay = (L : Limits) (s : List ℕ) → choices (records s) ≡ 0 → AsBefore L s
+
+-- What is written is what was written before rules that read a copy without a rule were dropped, with rules left out.
+pub record Shorter (S : Service) : Type 0 where
+  -- The l words of the unfolded program, read back, have each copy with some of its old rules, in their order, and are no more than there were.
+  pub unfolds : (s q old new : List ℕ) (l : ℕ) → S (call.unfolded s q old) (answered (l ∷ [])) (unsigned new)
+      → Forall₂ Shortens (readUnfolded (take l new) .copies) (nameless (unshortened (program s) (entries q)) .copies)
+      × (l ≤ length (words (unshortened (program s) (entries q))))
+  -- There are no more words of clauses, variables and clauses.
+  pub derives : (s q : List ℕ) (old new : List ℤ) (l v c : ℕ) → S (call.clauses s q old) (answered (l ∷ v ∷ c ∷ [])) (signed new)
+      → (l ≤ length (signedWords (clauses (unshortened (program s) (entries q)))))
+      × (v ≤ variables (unshortened (program s) (entries q)))
+      × (c ≤ length (clauses (unshortened (program s) (entries q))))
+
+-- So it is of every service that meets demand 1.
+abbrev pub OutputsShorten : Type 1
+OutputsShorten = (L : Limits) (S : Service) → Demand1 L S → Shorter S

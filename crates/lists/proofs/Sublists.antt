@@ -1,11 +1,14 @@
 -- Sublists: the kit's `Sublistᴰ l m` says that the members of l can be met in m in order, gaps allowed.
-use mathlib.Core.List.{List, [], _∷_, _++_, flatMap, reverse, reverseAux, reverse-reverse, append-nil, List·Memᴰ, List·Memᴰ·head, List·Memᴰ·tail, List·Memᴰ·not-nil, List·Memᴰ·cases-cons, Sublistᴰ, Sublistᴰ·slnil, Sublistᴰ·cons, Sublistᴰ·cons-cons, Sublistᴰ·nil-sublist, Sublistᴰ·refl, Sublistᴰ·trans, Sublistᴰ·append}
+use mathlib.Core.Bool.{Bool, true}
+use mathlib.Core.List.{List, [], _∷_, _++_, map, flatMap, reverse, reverseAux, reverse-reverse, append-nil, List·Memᴰ, List·Memᴰ·head, List·Memᴰ·tail, List·Memᴰ·not-nil, List·Memᴰ·cases-cons, Sublistᴰ, Sublistᴰ·slnil, Sublistᴰ·cons, Sublistᴰ·cons-cons, Sublistᴰ·nil-sublist, Sublistᴰ·refl, Sublistᴰ·trans, Sublistᴰ·append}
 use mathlib.Core.Logic.{_⊎_, inl, inr, ⊎-elim}
-use mathlib.Core.Path.{refl, _∙_, subst}
+use mathlib.Core.Path.{_≡_, refl, _∙_, ap, subst}
 use Prim.Native.Nat.{ℕ, zero, suc, _≤_}
 use native.Mathlib.Nat.{not-suc-le-zero, le-of-suc-le-suc}
-use lib.ListN.{length}
-use Rattle.lists.specs.Lists.{times}
+use native.Mathlib.Omega.{arith}
+use lib.ListN.{length, length-append}
+use Rattle.lists.specs.Lists.{filter, times}
+use Rattle.lists.proofs.Bools.{by-bool}
 
 module _ {A : Type 0} where
   pub sublist-tail : {a : A} {l m : List A} → Sublistᴰ (a ∷ l) m → Sublistᴰ l m
@@ -39,6 +42,19 @@ module _ {A : Type 0} where
   pub sublist-reversed : {l m : List A} → Sublistᴰ (reverse l) m → Sublistᴰ l (reverse m)
   sublist-reversed {l} {m} s = subst (λ k. Sublistᴰ k (reverse m)) (reverse-reverse l) (sublist-reverse s)
 
+  -- What passes a stricter test.
+  pub sublist-filter : (p q : A → Bool) (l : List A) → ((x : A) → p x ≡ true → q x ≡ true) → Sublistᴰ (filter p l) (filter q l)
+  unfolding filter
+  sublist-filter p q [] h = Sublistᴰ·slnil
+  sublist-filter p q (x ∷ l) h =
+      by-bool (p x) (λ t. rw (t, h x t) (Sublistᴰ·cons-cons refl (sublist-filter p q l h)))
+      (λ f. by-bool (q x) (λ t. rw (f, t) (Sublistᴰ·cons (sublist-filter p q l h))) (λ g. rw (f, g) (sublist-filter p q l h)))
+
+  pub sublist-length : {l m : List A} → Sublistᴰ l m → length l ≤ length m
+  sublist-length Sublistᴰ·slnil = omega arith
+  sublist-length (Sublistᴰ·cons s) = let h = sublist-length s in omega arith
+  sublist-length (Sublistᴰ·cons-cons e s) = let h = sublist-length s in omega arith
+
   -- Members of l, in any order, are met in l repeated often enough.
   pub sublist-times : (k : ℕ) (w l : List A) → length w ≤ k → ((x : A) → List·Memᴰ x w → List·Memᴰ x l) → Sublistᴰ w (times k l)
   unfolding times
@@ -55,3 +71,19 @@ module _ {A B : Type 0} where
       ⊎-elim (λ e. subst (λ k. Sublistᴰ k (f y ++ flatMap f l)) (append-nil (f x)) (Sublistᴰ·append (subst (λ z. Sublistᴰ (f x) (f z)) e (Sublistᴰ·refl (f x))) (Sublistᴰ·nil-sublist (flatMap f l))))
       (λ n. Sublistᴰ·append (Sublistᴰ·nil-sublist (f y)) (sublist-flatMap f l x n))
       (List·Memᴰ·cases-cons m)
+
+  pub sublist-map : (f : A → B) {l m : List A} → Sublistᴰ l m → Sublistᴰ (map f l) (map f m)
+  sublist-map f Sublistᴰ·slnil = Sublistᴰ·slnil
+  sublist-map f (Sublistᴰ·cons s) = Sublistᴰ·cons (sublist-map f s)
+  sublist-map f (Sublistᴰ·cons-cons e s) = Sublistᴰ·cons-cons (ap f e) (sublist-map f s)
+
+  pub sublist-flatMap-length : (f : A → List B) {l m : List A} → Sublistᴰ l m → length (flatMap f l) ≤ length (flatMap f m)
+  unfolding flatMap
+  sublist-flatMap-length f Sublistᴰ·slnil = omega arith
+  sublist-flatMap-length f (Sublistᴰ·cons {a = x} {l₂ = m} s) = let h = sublist-flatMap-length f s in let e = length-append (f x) (flatMap f m) in omega arith
+  sublist-flatMap-length f (Sublistᴰ·cons-cons {a = x} {b = y} {l₁ = l} {l₂ = m} q s) =
+      let h = sublist-flatMap-length f s in
+      let e = length-append (f x) (flatMap f l) in
+      let g = length-append (f y) (flatMap f m) in
+      let k = ap (λ z. length (f z)) q in
+      omega arith

@@ -5,9 +5,11 @@ use Rattle.sheet.specs.declared.Limits.{Limits}
 use Rattle.core.specs.inner.Asked.{Supported}
 use Rattle.core.specs.Calls.{Promised}
 use Rattle.core.specs.Demands.{Demand1, Demand2, Demand3, DefaultAccepted}
+use Rattle.core.specs.Claims.{Shorter}
 use Rattle.core.proofs.Calls.{demand-1}
 use Rattle.core.proofs.Default.{default-accepted}
 use Rattle.core.proofs.Demands.{demand-2, demand-3}
+use Rattle.core.proofs.Claims.{outputs-shorten}
 use Rattle.office.specs.Office.{office}
 
 pub supported : (L : Limits) → L ≡ office → Supported L
@@ -26,3 +28,7 @@ office-demand-2 = demand-2 office
 
 pub office-demand-3 : Demand3 office (Promised office)
 office-demand-3 = demand-3 office
+
+-- What the office writes is shortened.
+pub office-shorter : Shorter (Promised office)
+office-shorter = outputs-shorten office (Promised office) office-demand-1

@@ -1,9 +1,10 @@
--- The starred probes of document 01 ("Probes at the limits"): a table of what is asked and what is expected, and that the two agree.
+-- The starred probes of document 01 ("Probes at the limits") and one of copies that can never come on: a table of what is asked and what
+-- is expected, and that the two agree.
 use mathlib.Core.Bool.{not}
 use mathlib.Core.List.{List, [], _∷_, map}
 use mathlib.Core.Path.{_≡_}
 use Prim.Native.Nat.{ℕ}
-use lib.IntN.{ℤ, pos as plus}
+use lib.IntN.{ℤ, pos as plus, negℤ}
 use Rattle.lists.specs.Lists.{filter, range}
 use Rattle.asp.specs.Count.{stableModels}
 use Rattle.unfolding.specs.Chain.{chains, found}
@@ -51,6 +52,10 @@ threeEntries = 1 ∷ 0 ∷ 3 ∷ 0 ∷ 1 ∷ 2 ∷ []
 unfoldable pub fourEntries : List ℕ
 fourEntries = 1 ∷ 0 ∷ 4 ∷ 0 ∷ 1 ∷ 0 ∷ 2 ∷ []
 
+-- The entries 0 1 0.
+unfoldable pub loopEntries : List ℕ
+loopEntries = 1 ∷ 0 ∷ 3 ∷ 0 ∷ 1 ∷ 0 ∷ []
+
 -- What can be asked of a sheet, or of a sheet and a sequence. Where something is written, the room comes first.
 pub data Query : Type 0 where
   count models : List ℕ → Query
@@ -92,6 +97,8 @@ table =
     ∷ (test sheetA threeEntries, outcome (refused 9))
     ∷ (missing sheetA threeEntries, atoms ((1 ∷ 0 ∷ []) ∷ []))
     ∷ (test sheetA fourEntries, outcome (answered []))
+    -- The first copy of 0 has no rule, for 1 has no copy yet; so the copy of 1 has none, and the last copy of 0 has none.
+    ∷ (clauses 6 positiveLoop loopEntries, words (answered (6 ∷ 3 ∷ 3 ∷ [])) (negℤ (plus 3) ∷ plus 0 ∷ negℤ (plus 2) ∷ plus 0 ∷ negℤ (plus 1) ∷ plus 0 ∷ []))
     ∷ []
 
 -- The two columns agree: every probe is answered as expected.

@@ -12,9 +12,11 @@ use Rattle.core.specs.Promises.{readOutcome, bodyOutcome, componentsOutcome, de
 use Rattle.core.specs.Calls.{Call, Buffer, values}
 use Rattle.core.specs.Calls as call
 use Rattle.core.specs.Demands.{Demand1, Demand2, Demand3}
+use Rattle.core.specs.Claims.{Shorter}
 use Rattle.core.proofs.Calls.{Follows, follows-decided, read-follows, count-follows, body-follows, test-follows}
 use Rattle.core.proofs.Calls.{components-follows, default-follows, unfolded-follows, clauses-follows}
 use Rattle.core.proofs.Demands.{demand-2-of, demand-3-of}
+use Rattle.core.proofs.Claims.{outputs-shorten}
 use Rattle.office.specs.Office.{office}
 use Rattle.rulesheet.specs.Exported.{status, stored, Stores, shownOutcome}
 use Rattle.rulesheet.specs.Seen.{Returned, told, Seen, NumbersKept}
@@ -58,6 +60,10 @@ seen-demand-2 = demand-2-of office (Seen office) seen-demand-1
 
 pub seen-demand-3 : Demand3 office (Seen office)
 seen-demand-3 = demand-3-of office (Seen office) seen-demand-1
+
+-- What C sees written is shortened.
+pub seen-shorter : Shorter (Seen office)
+seen-shorter = outputs-shorten office (Seen office) seen-demand-1
 
 pub numbers-kept : NumbersKept office
 unfolding Returned readOutcome shownOutcome componentsOutcome defaultOutcome testOutcome unfoldedOutcome clausesOutcome countOutcome

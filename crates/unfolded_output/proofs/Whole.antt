@@ -5,14 +5,13 @@ use Prim.Native.Nat.{ℕ, _+_, _-_, _≤_, _<_}
 use native.Mathlib.Omega.{arith}
 use lib.ListN.{length, length-append, set, replicate}
 use Rattle.unfolding.specs.Unfolded.{Copy, last, bodyWords, copyWords, words}
-use Rattle.bits.specs.inner.Sets.{With}
 use Rattle.program.specs.declared.ProgramTable.{ProgramTable}
 use Rattle.writer.specs.inner.Wrote.{Wrote}
 use Rattle.writer.proofs.Writing.{Left, left-start, left-turn, left-end, left-length, left-room, wrote-append, wrote-length}
 use Rattle.copies.specs.inner.Tables.{Values, Overlaid}
 use Rattle.copies.specs.inner.Bodies.{bodiesBy}
 use Rattle.copies.specs.inner.Made.{EntryAt, Made}
-use Rattle.copies.specs.inner.Kept.{Kept}
+use Rattle.copies.specs.inner.Kept.{Marked, Kept}
 use Rattle.copies.specs.inner.Ready.{Ready, unfoldedIn}
 use Rattle.copies.specs.declared.EntryCopy.{EntryCopy}
 use Rattle.copies.specs.declared.KeptRules.{KeptRules}
@@ -30,14 +29,14 @@ module _ (t : ProgramTable) (q : List ℕ) (old : List ℕ) (at : ℕ) where
   total = copiesWords (unfoldedIn t q)
 
   abbrev pub CopiesWritten : ℕ → ℕ → List ℕ → ℕ → List ℕ → ℕ → Type 0
-  CopiesWritten i copied latest fresh cur next = Emitting t q i copied latest fresh (WordsLeft old at total cur next)
+  CopiesWritten i keeping latest fresh cur next = Emitting t q i keeping latest fresh (WordsLeft old at total cur next)
 
 module _ (t : ProgramTable) (names sets q : List ℕ) (R : Ready t names sets q) (old : List ℕ) (at : ℕ) where
   pub copies-start : CopiesWritten t q old at 3 0 (replicate 64 0) (t .atoms) old at
   unfolding copiesWords
   copies-start = emitting-start t names sets q R (WordsLeft old at (total t q old at) old at) (record { rest = left-start old at (total t q old at) _ refl })
 
-  module _ (i copied : ℕ) (latest : List ℕ) (fresh : ℕ) (cur : List ℕ) (next : ℕ) (E : CopiesWritten t q old at i copied latest fresh cur next) where
+  module _ (i keeping : ℕ) (latest : List ℕ) (fresh : ℕ) (cur : List ℕ) (next : ℕ) (E : CopiesWritten t q old at i keeping latest fresh cur next) where
     abbrev Rest : List Copy → Type 0
     Rest = WordsLeft old at (total t q old at) cur next
 
@@ -46,16 +45,16 @@ module _ (t : ProgramTable) (names sets q : List ℕ) (R : Ready t names sets q)
 
     pub copies-end : length q ≤ i → Wrote old at (copiesWords (unfoldedIn t q)) cur next
     unfolding flatMap
-    copies-end l = left-end old at (total t q old at) cur [] next (emitting-end t names sets q R i copied latest fresh Rest E l .rest) refl
+    copies-end l = left-end old at (total t q old at) cur [] next (emitting-end t names sets q R i keeping latest fresh Rest E l .rest) refl
 
     module _ (within : i < length q) where
       pub copies-entry : EntryAt names q i
-      copies-entry = emitting-entry t names sets q R i copied latest fresh Rest E within
+      copies-entry = emitting-entry t names sets q R i keeping latest fresh Rest E within
 
       pub copies-fresh : fresh < 4294967295
-      copies-fresh = emitting-fresh t names sets q R i copied latest fresh Rest E within
+      copies-fresh = emitting-fresh t names sets q R i keeping latest fresh Rest E within
 
-      module _ (c : EntryCopy) (M : Made q i names sets fresh c) (k : KeptRules) (K : Kept (t .heads) (t .pos) (t .rules) (c .atom) (c .component) copied k)
+      module _ (c : EntryCopy) (M : Made q i names sets fresh c) (k : KeptRules) (K : Kept (t .heads) (t .pos) (t .rules) (c .atom) (c .component) keeping k)
           (lasts vars : List ℕ) (F : Values last lasts) (O : Overlaid (c .component) latest lasts vars) where
         abbrev copy : Copy
         copy = record { atom = c .atom; var = c .var; kept = bodiesBy (t .pos) (t .neg) (t .added) vars (k .entries) (k .rules) }
@@ -70,13 +69,13 @@ module _ (t : ProgramTable) (names sets q : List ℕ) (R : Ready t names sets q)
 
         pub copies-room : at + length (copiesWords (unfoldedIn t q)) ≤ length old → next + length (keptWords (t .pos) (t .neg) (t .added) vars (c .var) k) ≤ length cur
         copies-room h =
-            let S = emitting-here t names sets q R i copied latest fresh Rest E within c M k K lasts vars F O in
+            let S = emitting-here t names sets q R i keeping latest fresh Rest E within c M k K lasts vars F O in
             left-room old at (total t q old at) cur here _ _ next (S .holds .rest) (step (S .copies)) h
 
-        pub copies-turn : (marked : ℕ) → With copied (c .atom) marked → (new : List ℕ) (behind : ℕ) → Wrote cur next (keptWords (t .pos) (t .neg) (t .added) vars (c .var) k) new behind
+        pub copies-turn : (marked : ℕ) → Marked keeping (c .atom) (k .rules) marked → (new : List ℕ) (behind : ℕ) → Wrote cur next (keptWords (t .pos) (t .neg) (t .added) vars (c .var) k) new behind
             → CopiesWritten t q old at (i + 1) marked (set latest (c .atom) (c .var)) (c .fresh) new behind
         copies-turn marked W new behind U =
-            emitting-turn t names sets q R i copied latest fresh Rest E within c M k K lasts vars F O marked (WordsLeft old at (total t q old at) new behind) W
+            emitting-turn t names sets q R i keeping latest fresh Rest E within c M k K lasts vars F O marked (WordsLeft old at (total t q old at) new behind) W
             (λ cs L. record { rest = left-turn old at (total t q old at) cur new here _ _ next behind (L .rest) (step cs) U })
 
 -- The whole.

@@ -5,29 +5,31 @@ use mathlib.Core.Logic.{inl, inr, ⊎-elim}
 use mathlib.Core.Path.{_≡_, refl, sym, _∙_, ap, subst}
 use Prim.Native.Nat.{ℕ, suc, _≤_, _<_}
 use native.Mathlib.Omega.{arith}
-use borrow.Author.Tests.{eqb-true}
+use borrow.Author.Tests.{eqb-true, ltb-true}
 use lib.Dec.{eqb}
-use Rattle.lists.specs.Lists.{all, any, filter, member}
+use lib.ListN.{length}
+use Rattle.lists.specs.Lists.{all, filter, member}
 use Rattle.lists.proofs.Bools.{by-bool, true-false, and-left, and-right}
 use Rattle.lists.proofs.Members.{all-at, filter-out, flatMap-out}
 use Rattle.asp.specs.Program.{Body, Rule, Program, wellFormed}
 use Rattle.asp.proofs.Derived.{rule-atoms, constraint-atoms}
 use Rattle.unfolding.specs.Graph.{edge, sameComponent}
-use Rattle.unfolding.specs.Unfolded.{Copy, last, copied, latest, usable, replaced, renamed, isKept, keptFor, variable, copiesFrom, unfolded}
+use Rattle.unfolding.specs.Unfolded.{Copy, last, latestKeeps, latest, usable, replaced, renamed, isKept, keptFor, variable, copiesFrom, unfolded}
 use Rattle.unfolding.proofs.Reach.{edge-in}
 use Rattle.unfolding.proofs.Completion.{Names, bodies}
 
--- The latest copy of a copied atom.
-copied-latest : (past : List Copy) (b : ℕ) → copied past b ≡ true → (c : Copy) × List·Memᴰ c past × (c .atom ≡ b) × (latest past b ≡ c .var)
-unfolding copied latest any
-copied-latest [] b e = absurd (true-false e refl)
-copied-latest (c ∷ past) b e =
-    by-bool (eqb (c .atom) b) (λ t. rw t (c, List·Memᴰ·head refl, eqb-true (c .atom) b t, refl))
-    (λ f. let u = copied-latest past b (rw f at e) in rw f (u .0, List·Memᴰ·tail (u .1), u .2, u .3))
+-- The latest copy, where it keeps a rule.
+keeps-latest : (past : List Copy) (b : ℕ) → latestKeeps past b ≡ true → (c : Copy) × List·Memᴰ c past × (c .atom ≡ b) × (0 < length (c .kept)) × (latest past b ≡ c .var)
+unfolding latestKeeps latest
+keeps-latest [] b e = absurd (true-false e refl)
+keeps-latest (c ∷ past) b e =
+    by-bool (eqb (c .atom) b) (λ t. rw t (c, List·Memᴰ·head refl, eqb-true (c .atom) b t, ltb-true 0 (length (c .kept)) (rw t at e), refl))
+    (λ f. let u = keeps-latest past b (rw f at e) in rw f (u .0, List·Memᴰ·tail (u .1), u .2, u .3, u .4))
 
--- Where a positive variable of a kept rule comes from: an earlier copy of an atom of a's component, or the last copy of an atom of another.
+-- Where a positive variable of a kept rule comes from: an earlier copy of an atom of a's component that keeps a rule, or the last
+-- copy of an atom of another.
 pub data Source (P : Program) (past : List Copy) (a v : ℕ) : Type 0 where
-  earlier : (c : Copy) → List·Memᴰ c past → sameComponent P a (c .atom) ≡ true → v ≡ c .var → Source P past a v
+  earlier : (c : Copy) → List·Memᴰ c past → sameComponent P a (c .atom) ≡ true → 0 < length (c .kept) → v ≡ c .var → Source P past a v
   final : (b : ℕ) → edge P b a ≡ true → b < P .atoms → sameComponent P a b ≡ false → v ≡ last b → Source P past a v
 
 module _ (P : Program) (wf : wellFormed P ≡ true) where
@@ -44,8 +46,8 @@ module _ (P : Program) (wf : wellFormed P ≡ true) where
     where
       same : (x : ℕ) → sameComponent P a x ≡ true → usable P past a x ≡ true → replaced P past a x ≡ v → Source P past a v
       same x t can e =
-          let c = copied-latest past x (rw t at can) in
-          earlier (c .0) (c .1) (ap (sameComponent P a) (c .2) ∙ t) (sym (rw t at e) ∙ c .3)
+          let c = keeps-latest past x (rw t at can) in
+          earlier (c .0) (c .1) (ap (sameComponent P a) (c .2) ∙ t) (c .3) (sym (rw t at e) ∙ c .4)
 
       other : (x : ℕ) → sameComponent P a x ≡ false → replaced P past a x ≡ v → v ≡ last x
       other x t e = sym (rw t at e)
@@ -74,7 +76,7 @@ module _ (P : Program) (wf : wellFormed P ≡ true) where
         record { pos = λ v n. from (source past a b m v n); neg = λ v n. let u = negative-last past a b m v n in last-numbered v (u .0) (u .1) (u .2) }
       where
         from : {v : ℕ} → Source P past a v → (1 ≤ v) × (v ≤ k)
-        from (earlier c n t e) = let u = h c n in (omega (arith, u .0), omega (arith, u .1))
+        from (earlier c n t k e) = let u = h c n in (omega (arith, u .0), omega (arith, u .1))
         from {v} (final x n l t e) = last-numbered v x l e
 
     copies-name : (s : List ℕ) (e : ℕ) (past : List Copy) → ((c : Copy) → List·Memᴰ c past → Numbered c)

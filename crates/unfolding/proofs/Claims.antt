@@ -1,11 +1,13 @@
 -- The proof of each claim.
-use Rattle.unfolding.specs.Claims.{ReachIsLeast, EveryAtomInOne, NamedBySmallest, ChainsAreListed, TestIsPasses, DefaultPasses, UnfoldedHasNoLoop, WordsAreUnfolded, WordsHaveNoLoop, ClausesAreFaithful, LiteralsAreNumbered, WordsAreClauses}
+use Rattle.unfolding.specs.Claims.{ReachIsLeast, EveryAtomInOne, NamedBySmallest, ChainsAreListed, TestIsPasses, DefaultPasses, UnfoldedHasNoLoop, WordsAreUnfolded, WordsHaveNoLoop, UnfoldedIsShortened, ReadsKeptCopies, ClausesAreFaithful, LiteralsAreNumbered, WordsAreClauses}
 use Rattle.unfolding.proofs.Reach.{reach-induction, reach-refl, reach-edge, same-refl, component-of, component-only, component-shared, component-smallest}
 use Rattle.unfolding.proofs.Chains.{chains-in, chains-out, passes-iff}
 use Rattle.unfolding.proofs.Default.{default-passes}
 use Rattle.unfolding.specs.Unfolded.{unfolded}
 use Rattle.unfolding.proofs.NoLoop.{no-positive-loop}
 use Rattle.unfolding.proofs.Decoding.{words-unfolded, words-no-loop}
+use Rattle.unfolding.proofs.Shortened.{shortened}
+use Rattle.unfolding.proofs.Reading.{reads-kept}
 use Rattle.unfolding.proofs.Theorem.{faithful, literals-numbered, words-clauses}
 
 pub reach-is-least : ReachIsLeast
@@ -38,6 +40,12 @@ words-are-unfolded P s = words-unfolded (unfolded P s)
 
 pub words-have-no-loop : WordsHaveNoLoop
 words-have-no-loop P w s b = words-no-loop (unfolded P s) (no-positive-loop P w s b)
+
+pub unfolded-is-shortened : UnfoldedIsShortened
+unfolded-is-shortened = shortened
+
+pub reads-kept-copies : ReadsKeptCopies
+reads-kept-copies = reads-kept
 
 pub clauses-are-faithful : ClausesAreFaithful
 clauses-are-faithful P s A = faithful P (A .program) s (A .entries) (A .found)

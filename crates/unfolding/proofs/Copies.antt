@@ -4,8 +4,10 @@ use mathlib.Core.List.{List, [], _∷_, map, reverseAux, List·Memᴰ, List·Mem
 use mathlib.Core.Logic.{inr, ⊎-elim}
 use mathlib.Core.Path.{_≡_, refl, sym, _∙_, ap, subst}
 use Prim.Native.Nat.{ℕ, suc, _+_, _<_}
-use borrow.Author.Tests.{eqb-true, eqb-false, eq-eqb}
-use lib.Dec.{eqb}
+use native.Mathlib.Omega.{arith}
+use borrow.Author.Tests.{eqb-true, eqb-false, eq-eqb, lt-ltb}
+use lib.Dec.{eqb, ltb}
+use lib.ListN.{length}
 use Rattle.lists.specs.Lists.{all, any, filter, member}
 use Rattle.lists.proofs.Bools.{by-bool, true-false, is-false, bool-ext, and-intro, and-left, and-right}
 use Rattle.lists.proofs.Members.{all-at, all-intro, all-map, all-cong, any-at, any-intro, filter-in, filter-out, member-in, member-out}
@@ -13,7 +15,7 @@ use Rattle.asp.specs.Program.{Body, Rule, Program, State, outside, holds, wellF
 use Rattle.asp.proofs.Derived.{fires-in, fires-out, pos-below, rule-atoms}
 use Rattle.asp.proofs.Same.{holds-in, holds-pos, holds-neg}
 use Rattle.unfolding.specs.Graph.{sameComponent}
-use Rattle.unfolding.specs.Unfolded.{Copy, last, copied, latest, usable, replaced, renamed, isKept, keptFor, variable, copiesFrom}
+use Rattle.unfolding.specs.Unfolded.{Copy, last, latestKeeps, latest, usable, replaced, renamed, isKept, keptFor, variable, copiesFrom}
 use Rattle.unfolding.specs.Faithful.{Assignment}
 use Rattle.unfolding.proofs.Current.{reads, copyValue, current, current-here, current-other, reads-same, reads-other}
 
@@ -39,7 +41,7 @@ Follows P X M e past (a ∷ s) =
 module _ (P : Program) (wf : wellFormed P ≡ true) (M : Assignment) (X : State) (projects : (b : ℕ) → b < P .atoms → M (last b) ≡ X b) where
   -- The copies made so far have the current values.
   abbrev pub Agrees : List Copy → Type 0
-  Agrees past = (b : ℕ) → (copied past b && M (latest past b)) ≡ current P X (entries past) b
+  Agrees past = (b : ℕ) → (latestKeeps past b && M (latest past b)) ≡ current P X (entries past) b
 
   module _ (past : List Copy) (agrees : Agrees past) (a : ℕ) where
     L : State
@@ -50,7 +52,7 @@ module _ (P : Program) (wf : wellFormed P ≡ true) (M : Assignment) (X : State)
     reads-in b l r =
         by-bool (sameComponent P a b)
         (λ t. let c = agrees b ∙ (sym (reads-same P X (current P X (entries past)) a b t) ∙ r) in
-        rw t (and-left (copied past b) (M (latest past b)) c, and-right (copied past b) (M (latest past b)) c))
+        rw t (and-left (latestKeeps past b) (M (latest past b)) c, and-right (latestKeeps past b) (M (latest past b)) c))
         (λ f. rw f (refl, projects b l ∙ (sym (reads-other P X (current P X (entries past)) a b f) ∙ r)))
 
     reads-out : (b : ℕ) → b < P .atoms → usable P past a b ≡ true → M (replaced P past a b) ≡ true → L b ≡ true
@@ -97,12 +99,19 @@ module _ (P : Program) (wf : wellFormed P ≡ true) (M : Assignment) (X : State)
     kept-value : any (holds M) (keptFor P past a) ≡ copyValue P X (current P X (entries past)) a
     kept-value = bool-ext kept-fires fires-kept
 
+    -- A copy that keeps no rule is false.
+    no-rule : {v : ℕ} (bs : List Body) → M v ≡ any (holds M) bs → (ltb 0 (length bs) && M v) ≡ M v
+    unfolding any
+    no-rule [] own = sym own
+    no-rule (b ∷ bs) own = rw (lt-ltb 0 (length (b ∷ bs)) (omega arith)) refl
+
     -- With one copy more.
-    agrees-more : (v : ℕ) (bs : List Body) → M v ≡ copyValue P X (current P X (entries past)) a → Agrees (record { atom = a; var = v; kept = bs } ∷ past)
-    unfolding copied latest any
-    agrees-more v bs e b =
+    agrees-more : (v : ℕ) (bs : List Body) → M v ≡ any (holds M) bs → M v ≡ copyValue P X (current P X (entries past)) a
+        → Agrees (record { atom = a; var = v; kept = bs } ∷ past)
+    unfolding latestKeeps latest
+    agrees-more v bs own e b =
         by-bool (eqb a b)
-        (λ t. rw t (e ∙ sym (current-here P X (entries past) a b (eqb-true a b t))))
+        (λ t. rw t (no-rule bs own ∙ (e ∙ sym (current-here P X (entries past) a b (eqb-true a b t)))))
         (λ f. rw f (agrees b ∙ sym (current-other P X (entries past) a b (eqb-false a b f))))
 
   -- Along the sequence, both ways.
@@ -112,8 +121,9 @@ module _ (P : Program) (wf : wellFormed P ≡ true) (M : Assignment) (X : State)
   solves-follows (a ∷ s) e past g h =
       let v = variable P e a (member a s) in
       let bs = keptFor P past a in
-      let here : M v ≡ copyValue P X (current P X (entries past)) a = h (record { atom = a; var = v; kept = bs }) (List·Memᴰ·head refl) ∙ kept-value past g a in
-      (here, solves-follows s (cond (member a s) (suc e) e) (record { atom = a; var = v; kept = bs } ∷ past) (agrees-more past g a v bs here) (λ c m. h c (List·Memᴰ·tail m)))
+      let own : M v ≡ any (holds M) bs = h (record { atom = a; var = v; kept = bs }) (List·Memᴰ·head refl) in
+      let here : M v ≡ copyValue P X (current P X (entries past)) a = own ∙ kept-value past g a in
+      (here, solves-follows s (cond (member a s) (suc e) e) (record { atom = a; var = v; kept = bs } ∷ past) (agrees-more past g a v bs own here) (λ c m. h c (List·Memᴰ·tail m)))
 
   pub follows-solves : (s : List ℕ) (e : ℕ) (past : List Copy) → Agrees past → Follows P X M e (entries past) s → Solves M (copiesFrom P e past s)
   unfolding copiesFrom
@@ -121,12 +131,13 @@ module _ (P : Program) (wf : wellFormed P ≡ true) (M : Assignment) (X : State)
   follows-solves (a ∷ s) e past g f c m =
       let v = variable P e a (member a s) in
       let bs = keptFor P past a in
-      ⊎-elim (λ q. subst (λ (c : Copy). M (c .var) ≡ any (holds M) (c .kept)) (sym q) (f .0 ∙ sym (kept-value past g a)))
-      (λ k. follows-solves s (cond (member a s) (suc e) e) (record { atom = a; var = v; kept = bs } ∷ past) (agrees-more past g a v bs (f .0)) (f .1) c k)
+      let own : M v ≡ any (holds M) bs = f .0 ∙ sym (kept-value past g a) in
+      ⊎-elim (λ q. subst (λ (c : Copy). M (c .var) ≡ any (holds M) (c .kept)) (sym q) own)
+      (λ k. follows-solves s (cond (member a s) (suc e) e) (record { atom = a; var = v; kept = bs } ∷ past) (agrees-more past g a v bs own (f .0)) (f .1) c k)
       (List·Memᴰ·cases-cons m)
 
   pub agrees-none : Agrees []
-  unfolding copied any current
+  unfolding latestKeeps current
   agrees-none b = refl
 
 -- An atom that does not come again keeps its value.

@@ -14,4 +14,6 @@ pub mod Words
 pub mod Theorem
 pub mod NoLoop
 pub mod Decoding
+pub mod Shortened
+pub mod Reading
 pub mod Claims

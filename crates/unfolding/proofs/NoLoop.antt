@@ -67,7 +67,7 @@ ends-loopless U v =
     turn v ih l = round v v ih l refl
 
 -- A copy whose variable is the last of an atom is a copy of that atom.
-last-atom : (P : Program) (s : List ℕ) (e : ℕ) (past : List Copy) (c : Copy) → List·Memᴰ c (copiesFrom P e past s) → (b : ℕ) → b < P .atoms → c .var ≡ last b → c .atom ≡ b
+pub last-atom : (P : Program) (s : List ℕ) (e : ℕ) (past : List Copy) (c : Copy) → List·Memᴰ c (copiesFrom P e past s) → (b : ℕ) → b < P .atoms → c .var ≡ last b → c .atom ≡ b
 unfolding copiesFrom variable last
 last-atom P [] e past c m b l q = absurd (List·Memᴰ·not-nil m)
 last-atom P (a ∷ s) e past c m b l q =
@@ -106,7 +106,7 @@ module _ (P : Program) (wf : wellFormed P ≡ true) (s : List ℕ) (low : Entrie
         from u (source P wf past a (N .rule) (subst (λ (c : Copy). List·Memᴰ (N .rule) (c .kept)) same (N .kept)) u (N .stands)))
       where
         from : (u : ℕ) → Source P past a u → Ends U u
-        from u (earlier c k t e) = subst (Ends U) (sym e) (ends c k (subst (λ x. x < suc m) (ancestors-same P wf a (c .atom) l t) h))
+        from u (earlier c k t n e) = subst (Ends U) (sym e) (ends c k (subst (λ x. x < suc m) (ancestors-same P wf a (c .atom) l t) h))
         from u (final b k bl t e) = subst (Ends U) (sym e) (last-ends b bl (let less = ancestors-less P wf b a bl k t in omega arith))
 
     along : (r : List ℕ) → Entries P r → (e : ℕ) (past : List Copy) → EndsBelow (suc m) past

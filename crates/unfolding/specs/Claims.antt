@@ -1,19 +1,20 @@
 -- What is proved of the definitions; `proofs/Claims.antt` has the proof of each.
 use mathlib.Core.Bool.{true}
-use mathlib.Core.List.{List, List·Memᴰ}
-use mathlib.Core.Logic.{_↔_}
+use mathlib.Core.List.{List, [], List·Memᴰ}
+use mathlib.Core.Logic.{_↔_, _≢_}
 use mathlib.Core.Path.{_≡_}
 use Prim.Native.Nat.{ℕ, _≤_, _<_}
 use Rattle.lists.specs.Lists.{below}
-use Rattle.asp.specs.Program.{Program, State, wellFormed}
+use Rattle.asp.specs.Program.{Body, Program, State, wellFormed}
 use Rattle.unfolding.specs.Graph.{edge, reach, sameComponent, component}
 use Rattle.unfolding.specs.Component.{Component}
 use Rattle.unfolding.specs.Chain.{Chain, Passes, chains, passes}
 use Rattle.unfolding.specs.Default.{defaultSequence}
-use Rattle.unfolding.specs.Unfolded.{NoPositiveLoop, unfolded, words}
+use Rattle.unfolding.specs.Unfolded.{Copy, NoPositiveLoop, unfolded, words}
 use Rattle.unfolding.specs.Decoded.{readUnfolded, nameless}
 use Rattle.unfolding.specs.Clauses.{Literal, Clause, variableOf, signedWords, readWords}
 use Rattle.unfolding.specs.Faithful.{clausesOf, variablesOf, Faithful}
+use Rattle.unfolding.specs.Shortened.{Shortened}
 
 -- The relation is reflexive and closed under edges, for every start a among the atoms.
 pub record AlongEdges (P : Program) (R : ℕ → ℕ → Type 0) : Type 0 where
@@ -66,6 +67,15 @@ WordsAreUnfolded = (P : Program) (s : List ℕ) → readUnfolded (words (unfolde
 
 abbrev pub WordsHaveNoLoop : Type 0
 WordsHaveNoLoop = (P : Program) → wellFormed P ≡ true → (s : List ℕ) → below (P .atoms) s ≡ true → NoPositiveLoop (readUnfolded (words (unfolded P s)))
+
+-- Dropping rules that read a copy without a rule only shortens the unfolded program, and no kept rule reads such a copy of its own component.
+abbrev pub UnfoldedIsShortened : Type 0
+UnfoldedIsShortened = (P : Program) (s : List ℕ) → Shortened P s
+
+abbrev pub ReadsKeptCopies : Type 0
+ReadsKeptCopies = (P : Program) → wellFormed P ≡ true → (s : List ℕ) → below (P .atoms) s ≡ true
+    → (c d : Copy) → List·Memᴰ c (unfolded P s .copies) → List·Memᴰ d (unfolded P s .copies) → sameComponent P (c .atom) (d .atom) ≡ true
+    → (b : Body) → List·Memᴰ b (c .kept) → List·Memᴰ (d .var) (b .pos) → d .kept ≢ []
 
 -- A program and a sequence of its atoms that passes.
 pub record Accepted (P : Program) (s : List ℕ) : Type 0 where

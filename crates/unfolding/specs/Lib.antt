@@ -6,5 +6,6 @@ pub mod Unfolded
 pub mod Decoded
 pub mod Clauses
 pub mod Faithful
+pub mod Shortened
 pub mod Claims
 pub mod inner

@@ -1,9 +1,9 @@
 -- The unfolded program of a program and a sequence, its words, and what a positive loop is ("Unfolding" of document 01).
-use mathlib.Core.Bool.{Bool, true, not, _&&_, _||_, cond}
+use mathlib.Core.Bool.{Bool, true, false, not, _&&_, _||_, cond}
 use mathlib.Core.List.{List, [], _∷_, _++_, map, flatMap}
 use mathlib.Core.Path.{_≡_}
 use Prim.Native.Nat.{ℕ, suc, _+_}
-use lib.Dec.{eqb}
+use lib.Dec.{eqb, ltb}
 use lib.ListN.{length}
 use Rattle.lists.specs.Lists.{all, any, filter, member}
 use Rattle.asp.specs.Program.{Body, Rule, Program}
@@ -24,18 +24,19 @@ pub record Unfolded : Type 0 where
 unfoldable pub last : ℕ → ℕ
 last a = suc a
 
--- The atom has a copy among those made so far.
-unfoldable pub copied : List Copy → ℕ → Bool
-copied past b = any (λ c. eqb (c .atom) b) past
-
 -- The variable of the atom's latest copy among those made so far, the latest of which stands first (0 where it has none).
 unfoldable pub latest : List Copy → ℕ → ℕ
 latest [] b = 0
 latest (c ∷ past) b = cond (eqb (c .atom) b) (c .var) (latest past b)
 
--- A rule for a is dropped where a positive atom of a's component has no copy so far.
+-- The atom's latest copy so far kept a rule (no where it has none).
+unfoldable pub latestKeeps : List Copy → ℕ → Bool
+latestKeeps [] b = false
+latestKeeps (c ∷ past) b = cond (eqb (c .atom) b) (ltb 0 (length (c .kept))) (latestKeeps past b)
+
+-- A rule for a is dropped where the latest copy so far of a positive atom of a's component kept no rule, just as where there is no copy.
 unfoldable pub usable : Program → List Copy → ℕ → ℕ → Bool
-usable P past a b = not (sameComponent P a b) || copied past b
+usable P past a b = not (sameComponent P a b) || latestKeeps past b
 
 -- What stands for a positive atom in a rule for a: its latest copy so far in a's component, its last copy in another.
 unfoldable pub replaced : Program → List Copy → ℕ → ℕ → ℕ

@@ -3,7 +3,7 @@
 use rulesheet_tests::inputs::{any_sheet, damaged};
 use rulesheet_tests::library::Library;
 use rulesheet_tests::random::Random;
-use rulesheet_tests::reference::{answer, read_sheet, within};
+use rulesheet_tests::reference::{answer, read_sheet, unfold, within, Unfolded};
 use rulesheet_tests::report::{Statistics, Tally};
 use rulesheet_tests::sequences::any_sequence;
 use rulesheet_tests::service::{Answer, Argument, Call, Operation, Service};
@@ -19,12 +19,18 @@ fn main() {
         env::args().skip(1).map(|argument| argument.parse().expect("usage: differential [INPUTS [SEED]]"));
     let inputs = arguments.next().unwrap_or(INPUTS);
     let mut random = Random::new(arguments.next().unwrap_or(SEED));
-    let mut comparison =
-        Comparison { library: Library::new(), tally: Tally::default(), statistics: Statistics::default() };
+    let mut comparison = Comparison {
+        library: Library::new(),
+        tally: Tally::default(),
+        statistics: Statistics::default(),
+        unfolded: 0,
+        shortened: 0,
+    };
     let offered: Vec<Operation> =
         Operation::ALL.into_iter().filter(|&operation| comparison.library.offers(operation)).collect();
     for _ in 0..inputs {
         let (sheet, sequence) = input(&mut random);
+        comparison.count(&sheet, &sequence);
         for &operation in &offered {
             for (call, expected) in calls(&mut random, operation, &sheet, &sequence) {
                 comparison.compare(&call, &expected);
@@ -85,9 +91,20 @@ struct Comparison {
     library: Library,
     tally: Tally,
     statistics: Statistics,
+    /// Inputs that are accepted for unfolding, and those of which W2 drops a rule.
+    unfolded: usize,
+    shortened: usize,
 }
 
 impl Comparison {
+    fn count(&mut self, sheet: &[u8], sequence: &[u8]) {
+        if let Ok(unfolded) = unfold(Unfolded::new, sheet, sequence) {
+            let before = unfold(Unfolded::unshortened, sheet, sequence).expect("they are accepted");
+            self.unfolded += 1;
+            self.shortened += usize::from(unfolded.kept() < before.kept());
+        }
+    }
+
     fn compare(&mut self, call: &Call, expected: &Answer) {
         let result = self.library.check(call, &expected.to_string());
         self.statistics.add(call.operation, expected);
@@ -99,6 +116,7 @@ impl Comparison {
 
     fn finish(&self) -> ! {
         print!("{}", self.statistics);
+        println!("    {} of {} inputs that are unfolded are shortened by W2", self.shortened, self.unfolded);
         self.tally.finish()
     }
 }

@@ -14,7 +14,6 @@ pub struct Body {
 
 #[derive(Clone, Debug)]
 pub struct AtomCopy {
-    pub atom: u8,
     pub variable: Variable,
     /// The bodies of the rules kept for this copy.
     pub bodies: Vec<Body>,
@@ -26,20 +25,38 @@ pub struct Unfolded {
 }
 
 impl Unfolded {
+    /// When a positive atom's latest copy in the same component kept no rule, the rule that names it is dropped too, just as
+    /// when there is no copy.
     pub fn new(sheet: &Sheet, graph: &Graph, entries: &[u8]) -> Unfolded {
+        Unfolded::derived(sheet, graph, entries, |copy| !copy.bodies.is_empty())
+    }
+
+    /// The derivation before W2: a copy that kept no rule is read like any other.
+    pub fn unshortened(sheet: &Sheet, graph: &Graph, entries: &[u8]) -> Unfolded {
+        Unfolded::derived(sheet, graph, entries, |_| true)
+    }
+
+    fn derived(sheet: &Sheet, graph: &Graph, entries: &[u8], can_come_on: fn(&AtomCopy) -> bool) -> Unfolded {
         let sheet = expanded(sheet);
+        // The variable of each atom's latest copy, if that can come on.
         let mut latest = BTreeMap::new();
         let mut copies = Vec::new();
         for (&atom, variable) in entries.iter().zip(copy_variables(sheet.atoms, entries)) {
             let rules = sheet.rules().filter(|rule| rule.head == atom);
             let bodies = rules.filter_map(|rule| unfold(rule, graph, &latest)).collect();
-            copies.push(AtomCopy { atom, variable, bodies });
-            latest.insert(atom, variable);
+            let copy = AtomCopy { variable, bodies };
+            if can_come_on(&copy) {
+                latest.insert(atom, variable);
+            } else {
+                latest.remove(&atom);
+            }
+            copies.push(copy);
         }
         Unfolded { copies, constraints: sheet.constraints().map(final_body).collect() }
     }
 
-    fn kept(&self) -> usize {
+    /// The number of rules kept.
+    pub fn kept(&self) -> usize {
         self.copies.iter().map(|copy| copy.bodies.len()).sum()
     }
 
@@ -114,7 +131,7 @@ fn last_copy(atom: u8) -> Variable {
     Variable::from(atom) + 1
 }
 
-/// The rule's body for a copy of its head, or none if an atom of the head's component has no copy yet.
+/// The rule's body for a copy of its head, or none if an atom of the head's component has no such latest copy.
 fn unfold(rule: &Record, graph: &Graph, latest: &BTreeMap<u8, Variable>) -> Option<Body> {
     let component = graph.component(rule.head);
     let read = |atom: &u8| if component.contains(atom) { latest.get(atom).copied() } else { Some(last_copy(*atom)) };

@@ -9,11 +9,11 @@ use Rattle.clause_output.proofs.put_copies.Statement.{statement}
 use Rattle.clause_output.proofs.put_copies.Tie as tie
 
 abbrev Inv-loop : tie.InvT-loop
-Inv-loop out₀ q names sets lasts t rules places latest₀ copied₀ fresh₀ ends₀ i₀ out latest copied fresh ends i =
-    ClausesWritten t q out₀ i copied latest fresh out ends
+Inv-loop out₀ q names sets lasts t rules places latest₀ keeping₀ fresh₀ ends₀ i₀ out latest keeping fresh ends i =
+    ClausesWritten t q out₀ i keeping latest fresh out ends
 
 abbrev μ-loop : tie.MeasureT-loop
-μ-loop out₀ q names sets lasts t rules places latest₀ copied₀ fresh₀ ends₀ i₀ out latest copied fresh ends i =
+μ-loop out₀ q names sets lasts t rules places latest₀ keeping₀ fresh₀ ends₀ i₀ out latest keeping fresh ends i =
     length q - i
 
 last-places-requires : tie.Need-last-places-requires Inv-loop μ-loop
@@ -61,8 +61,8 @@ mul-latest c = search needs
 array-write-latest : tie.Need-array-write-latest Inv-loop μ-loop
 array-write-latest c = search needs
 
-with-requires : tie.Need-with-requires Inv-loop μ-loop
-with-requires c κs = search needs
+mark-requires : tie.Need-mark-requires Inv-loop μ-loop
+mark-requires c κs = search needs
 
 add-i : tie.Need-add-i Inv-loop μ-loop
 add-i c = let test = c .before .before .before .before .before .before .before .before .before .before .before .before .before .before .before .before .before .before .before in let start = test .before .before .before .before .before in omega (arith, test .loop-test .taken, start .pre .0 .short)
@@ -78,7 +78,7 @@ loop-again c =
     let made = kept .before .before .before .before in
     let test = made .before .before in
     let start = test .before .before .before .before .before in
-    copies-turn _ _ _ _ (start .pre .0) _ _ _ _ _ _ _ (test .before .loop .inv) (test .loop-test .taken) _ (made .copy-at .ensures) _ (kept .kept-rules .ensures) _ _ (start .pre .1) (laid .overlay .ensures) _ (c .with .ensures) _ _ (put .put-copy .ensures)
+    copies-turn _ _ _ _ (start .pre .0) _ _ _ _ _ _ _ (test .before .loop .inv) (test .loop-test .taken) _ (made .copy-at .ensures) _ (kept .kept-rules .ensures) _ _ (start .pre .1) (laid .overlay .ensures) _ (c .mark .ensures) _ _ (put .put-copy .ensures)
 
 same-length : tie.Need-same-length Inv-loop μ-loop
 same-length c = search (needs, copies-length)
@@ -103,7 +103,7 @@ put-copies-spec =
     put-copy-requires
     mul-latest
     array-write-latest
-    with-requires
+    mark-requires
     add-i
     loop-less
     loop-again

@@ -6,10 +6,10 @@ use Rattle.copies.proofs.kept_numbers.Statement.{statement}
 use Rattle.copies.proofs.kept_numbers.Tie as tie
 
 abbrev Inv-loop : tie.InvT-loop
-Inv-loop heads pos sizes rules a component copied kept₀ atoms₀ j₀ kept atoms j = CountedLeft heads pos rules a component copied sizes kept atoms j
+Inv-loop heads pos sizes rules a component keeping kept₀ atoms₀ j₀ kept atoms j = CountedLeft heads pos rules a component keeping sizes kept atoms j
 
 abbrev μ-loop : tie.MeasureT-loop
-μ-loop heads pos sizes rules a component copied kept₀ atoms₀ j₀ kept atoms j = rules - j
+μ-loop heads pos sizes rules a component keeping kept₀ atoms₀ j₀ kept atoms j = rules - j
 
 loop-holds : tie.Need-loop-holds Inv-loop μ-loop
 loop-holds c = search (needs, counted-start)

@@ -6,10 +6,10 @@ use Rattle.copies.proofs.kept_rules.Statement.{statement}
 use Rattle.copies.proofs.kept_rules.Tie as tie
 
 abbrev Inv-loop : tie.InvT-loop
-Inv-loop heads pos rules a component copied entries₀ kept₀ j₀ entries kept j = Keeping heads pos rules a component copied j entries kept
+Inv-loop heads pos rules a component keeping entries₀ kept₀ j₀ entries kept j = Keeping heads pos rules a component keeping j entries kept
 
 abbrev μ-loop : tie.MeasureT-loop
-μ-loop heads pos rules a component copied entries₀ kept₀ j₀ entries kept j = rules - j
+μ-loop heads pos rules a component keeping entries₀ kept₀ j₀ entries kept j = rules - j
 
 loop-holds : tie.Need-loop-holds Inv-loop μ-loop
 loop-holds c = search (needs, keeping-start)

@@ -7,10 +7,10 @@ use Rattle.copies.proofs.kept_totals.Statement.{statement}
 use Rattle.copies.proofs.kept_totals.Tie as tie
 
 abbrev Inv-loop : tie.InvT-loop
-Inv-loop q names sets t count sizes copied₀ rules₀ atoms₀ i₀ copied rules atoms i = Totalling t q i copied rules atoms
+Inv-loop q names sets t count sizes keeping₀ rules₀ atoms₀ i₀ keeping rules atoms i = Totalling t q i keeping rules atoms
 
 abbrev μ-loop : tie.MeasureT-loop
-μ-loop q names sets t count sizes copied₀ rules₀ atoms₀ i₀ copied rules atoms i = length q - i
+μ-loop q names sets t count sizes keeping₀ rules₀ atoms₀ i₀ keeping rules atoms i = length q - i
 
 body-sizes-requires : tie.Need-body-sizes-requires Inv-loop μ-loop
 body-sizes-requires c κs = search needs
@@ -33,8 +33,8 @@ add-rules c = search (needs, totalling-rules)
 add-atoms : tie.Need-add-atoms Inv-loop μ-loop
 add-atoms c = search (needs, totalling-atoms)
 
-with-requires : tie.Need-with-requires Inv-loop μ-loop
-with-requires c κs = search (needs, totalling-atom)
+mark-requires : tie.Need-mark-requires Inv-loop μ-loop
+mark-requires c κs = search (needs, totalling-atom)
 
 add-i : tie.Need-add-i Inv-loop μ-loop
 add-i c = search needs
@@ -61,7 +61,7 @@ kept-totals-spec =
     kept-numbers-requires
     add-rules
     add-atoms
-    with-requires
+    mark-requires
     add-i
     loop-less
     loop-again

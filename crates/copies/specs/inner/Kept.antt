@@ -1,9 +1,9 @@
 -- Which rules of a table are kept for a copy.
-use mathlib.Core.Bool.{Bool, not, _&&_, _||_}
+use mathlib.Core.Bool.{Bool, not, _&&_, _||_, cond}
 use mathlib.Core.List.{List, [], _∷_, map}
 use mathlib.Core.Path.{_≡_}
 use Prim.Native.Nat.{ℕ, _+_, _≤_, _<_}
-use lib.Dec.{eqb}
+use lib.Dec.{eqb, ltb}
 use lib.ListN.{length, getD}
 use Rattle.lists.specs.Lists.{all, filter, range}
 use Rattle.bits.specs.inner.Sets.{has}
@@ -12,13 +12,17 @@ use Rattle.copies.specs.inner.Bodies.{bodyAtoms}
 use Rattle.copies.specs.declared.KeptNumbers.{KeptNumbers}
 use Rattle.copies.specs.declared.KeptRules.{KeptRules}
 
--- A rule is kept for a copy of a: a is its head, and its positive atoms of a's component have copies.
+-- A rule is kept for a copy of a: a is its head, and its positive atoms of a's component are among those whose latest copy keeps a rule.
 unfoldable pub keeps : ℕ → ℕ → ℕ → ℕ → ℕ → Bool
-keeps a component copied head pos = eqb head a && all (λ b. not (has component b) || has copied b) (listed pos)
+keeps a component keeping head pos = eqb head a && all (λ b. not (has component b) || has keeping b) (listed pos)
+
+-- The atoms whose latest copy keeps a rule, behind a copy of a that keeps so many.
+pub record Marked (keeping a rules r : ℕ) : Type 0 where
+  pub members : (b : ℕ) → has r b ≡ cond (eqb b a) (ltb 0 rules) (has keeping b)
 
 -- The entries of the rules kept for a copy of a, of the first so many.
 unfoldable pub keptEntries : List ℕ → List ℕ → ℕ → ℕ → ℕ → ℕ → List ℕ
-keptEntries heads pos rules a component copied = filter (λ i. keeps a component copied (getD heads i 0) (getD pos i 0)) (range 0 rules)
+keptEntries heads pos rules a component keeping = filter (λ i. keeps a component keeping (getD heads i 0) (getD pos i 0)) (range 0 rules)
 
 -- The first k numbers listed are entries of a table.
 pub record Inside (entries : List ℕ) (k : ℕ) : Type 0 where
@@ -31,8 +35,8 @@ pub record ListedAt (entries : List ℕ) (j r : ℕ) : Type 0 where
   pub low : r < 192
 
 -- The rules kept for a copy of a.
-pub record Kept (heads pos : List ℕ) (rules a component copied : ℕ) (r : KeptRules) : Type 0 where
-  pub entries : map (λ j. getD (r .entries) j 0) (range 0 (r .rules)) ≡ keptEntries heads pos rules a component copied
+pub record Kept (heads pos : List ℕ) (rules a component keeping : ℕ) (r : KeptRules) : Type 0 where
+  pub entries : map (λ j. getD (r .entries) j 0) (range 0 (r .rules)) ≡ keptEntries heads pos rules a component keeping
   pub inside : Inside (r .entries) (r .rules)
 
 -- Sizes that bodies have.
@@ -50,6 +54,6 @@ sumAt sizes [] = 0
 sumAt sizes (i ∷ is) = getD sizes i 0 + sumAt sizes is
 
 -- How many rules are kept for a copy of a, and how many atoms their bodies have.
-pub record KeptCounted (heads pos sizes : List ℕ) (rules a component copied : ℕ) (r : KeptNumbers) : Type 0 where
-  pub number : r .rules ≡ length (keptEntries heads pos rules a component copied)
-  pub sum : r .atoms ≡ sumAt sizes (keptEntries heads pos rules a component copied)
+pub record KeptCounted (heads pos sizes : List ℕ) (rules a component keeping : ℕ) (r : KeptNumbers) : Type 0 where
+  pub number : r .rules ≡ length (keptEntries heads pos rules a component keeping)
+  pub sum : r .atoms ≡ sumAt sizes (keptEntries heads pos rules a component keeping)

@@ -20,31 +20,58 @@ pub fn complete(components: u8, size: u8) -> Sheet {
     Sheet::new(components * size, (0..components).flat_map(|place| block(place * size)).collect())
 }
 
-/// Rules for the first atoms in turn, each with every atom in both lists: those atoms are one component.
+/// Rules for the first atoms in turn, each with every atom in both lists: those atoms are one component. As every rule names its
+/// own head, no copy of them keeps a rule.
 pub fn full(atoms: u8, heads: u8, rules: u8) -> Sheet {
     let all: Vec<u8> = (0..atoms).collect();
     Sheet::new(atoms, (0..rules).map(|place| rule(place % heads, &all, &all)).collect())
 }
 
-/// The same with eight atoms, where 56 of the 128 records are choice rules: 64 atoms with the fresh ones.
+/// The sheet without the positive atoms of its first rules, one for each of so many heads: so their copies keep rules.
+pub fn entered(mut sheet: Sheet, heads: usize) -> Sheet {
+    sheet.records.iter_mut().take(heads).for_each(|record| record.positives.clear());
+    sheet
+}
+
+/// A component of eight, where 56 of the 128 records are choice rules: 64 atoms with the fresh ones.
 pub fn many_choices() -> Sheet {
-    let mut sheet = full(8, 8, 128);
+    let mut sheet = entered(full(8, 8, 128), 8);
     sheet.records.iter_mut().take(56).for_each(|record| record.kind = CHOICE);
     sheet
 }
 
 /// Six complete components of ten atoms: each rule has every atom that comes before its component, those of the
-/// component, and every atom negated.
+/// component, and every atom negated; the first rule of each atom has negated ones only.
 pub fn six_components() -> Sheet {
     let all: Vec<u8> = (0..60).collect();
     let earlier = |head: u8| &all[..usize::from(head / 10 * 10 + 10)];
-    Sheet::new(60, (0..128).map(|place| place % 60).map(|head| rule(head, earlier(head), &all)).collect())
+    let rules = (0..128).map(|place| place % 60).map(|head| rule(head, earlier(head), &all));
+    entered(Sheet::new(60, rules.collect()), 60)
 }
 
-/// Rules for atom 0 with every atom in both lists, and atom 63 in its component: none is kept before a copy of 63.
+/// Six cycles of ten atoms: each atom holds if the next does, and the last is a fact. Along the default sequence each round
+/// brings one atom more whose copies keep a rule.
+pub fn late_cycles() -> Sheet {
+    let block = |first: u8| {
+        let falling: Vec<u8> = (first..first + 10).rev().collect();
+        [cycle(&falling), vec![rule(first + 9, &[], &[])]].concat()
+    };
+    Sheet::new(60, (0..6).flat_map(|place| block(place * 10)).collect())
+}
+
+/// Rules for atom 0 with nearly every atom in both lists. One is 63, of the same component: it keeps no rule before 62 has a
+/// copy.
 pub fn late() -> Sheet {
-    let mut sheet = full(64, 1, 127);
-    sheet.records.push(rule(63, &[0], &[]));
+    let mut sheet = full(64, 1, 125);
+    sheet.records.iter_mut().for_each(|record| record.positives.retain(|atom| ![0, 62].contains(atom)));
+    sheet.records.extend([rule(63, &[62], &[]), rule(62, &[0], &[]), rule(62, &[], &[])]);
+    sheet
+}
+
+/// Rules for atom 0 with every atom in both lists, but that one of them lacks its head: so the copies keep rules.
+pub fn longest() -> Sheet {
+    let mut sheet = full(64, 1, 128);
+    sheet.records[0].positives.remove(0);
     sheet
 }
 

@@ -1,17 +1,19 @@
 //! The operations that write words, beside a fill of the same buffer.
 
 use crate::check;
-use crate::sheets::{complete, full, late, many_choices, sheet_a, six_components};
+use crate::sheets::{complete, entered, full, late, late_cycles, longest, many_choices, sheet_a, six_components};
 use crate::timing::{columns, time_in_turns};
 use rulesheet_tests::binding;
-use rulesheet_tests::reference::{expanded, unfold, Graph, Unfolded};
+use rulesheet_tests::reference::{expanded, unfold, Derivation, Graph, Unfolded};
 use rulesheet_tests::report::Tally;
 use rulesheet_tests::sheet::{sequence_bytes, Sheet};
 use std::hint::black_box;
 
 pub fn measure(tally: &mut Tally) {
-    Writer { name: "unfolded", call: binding::unfolded, expected: unfolded_numbers }.table(tally);
-    Writer { name: "clauses", call: binding::clauses, expected: clauses_numbers }.table(tally);
+    let shown = &[("words", 0)];
+    Writer { name: "unfolded", call: binding::unfolded, expected: unfolded_numbers, shown }.table(tally);
+    let shown = &[("words", 0), ("clauses", 2)];
+    Writer { name: "clauses", call: binding::clauses, expected: clauses_numbers, shown }.table(tally);
 }
 
 /// The fill, the test, a call without room and a call.
@@ -28,10 +30,11 @@ fn inputs() -> Vec<Input> {
     let default = |name, sheet: Sheet| Input { name, entries: Graph::new(&sheet).default_sequence(), sheet };
     let eight = |rules, entries: u16| {
         let entries = (0..entries).map(|place| place as u8 % 8).collect();
-        Input { name: "1 component of 8", sheet: full(8, 8, rules), entries }
+        Input { name: "1 component of 8", sheet: entered(full(8, 8, rules), 8), entries }
     };
     let zeros = |number| vec![0; number];
     let others: Vec<u8> = (1..64).collect();
+    let one_atom = [zeros(577), others.clone()].concat();
     vec![
         Input { name: "Sheet A", sheet: sheet_a(), entries: vec![0, 1, 0, 2] },
         eight(16, 640),
@@ -41,16 +44,19 @@ fn inputs() -> Vec<Input> {
         eight(128, 160),
         eight(128, 320),
         eight(128, 640),
-        default("6 components of 10, short rules", complete(6, 10)),
+        default("6 components of 10, no way in", complete(6, 10)),
+        default("6 cycles of 10, late way in", late_cycles()),
         default("6 components of 10, long rules", six_components()),
         Input {
             name: "1 component of 8, 56 choice rules",
             sheet: many_choices(),
             entries: [(0..8).cycle().take(584).collect(), (8..64).collect::<Vec<u8>>()].concat(),
         },
-        Input { name: "nearly all dropped", sheet: late(), entries: [zeros(576), others.clone(), zeros(1)].concat() },
+        Input { name: "nearly all dropped", sheet: late(), entries: [vec![63], zeros(575), others, zeros(1)].concat() },
+        // The most words before W2.
+        Input { name: "all dropped", sheet: full(64, 1, 128), entries: one_atom.clone() },
         // No legal input gives more words, with choice rules or without.
-        Input { name: "the most words", sheet: full(64, 1, 128), entries: [zeros(577), others].concat() },
+        Input { name: "the most words", sheet: longest(), entries: one_atom },
     ]
 }
 
@@ -65,15 +71,18 @@ struct Writer<T, const N: usize> {
     name: &'static str,
     call: Call<T, N>,
     expected: fn(&Unfolded) -> [u64; N],
+    /// The numbers in the table, by their names and places.
+    shown: &'static [(&'static str, usize)],
 }
 
 /// Words can be made from 0 and 1.
 impl<T: Copy + From<bool>, const N: usize> Writer<T, N> {
     fn table(&self, tally: &mut Tally) {
         let name = self.name;
-        println!("\n{name}: milliseconds, medians; `fill` sets the same words to 1, `test` tests the sequence, `empty` is a call without room\n");
-        println!("| sheet | rules | entries | words | fill | test | empty | call | million words / s | call / fill | empty / call |");
-        println!("|---|--:|--:|--:|--:|--:|--:|--:|--:|--:|--:|");
+        println!("\n{name}: milliseconds, medians; `fewer` is how many fewer there are than before W2, `fill` sets the same words to 1, `test` tests the sequence, `empty` is a call without room\n");
+        let shown: String = self.shown.iter().map(|(shown, _)| format!(" {shown} | fewer |")).collect();
+        println!("| sheet | rules | entries |{shown} fill | test | empty | call | million words / s | call / fill | empty / call |");
+        println!("|---|{}", "--:|".repeat(9 + 2 * self.shown.len()));
         let mut rows: Vec<Row<T>> = inputs().into_iter().map(|input| self.row(input, tally)).collect();
         let times = time_in_turns(rows.len() * CALLS, |which| self.call(&mut rows[which / CALLS], which % CALLS));
         for (row, times) in rows.iter_mut().zip(times.chunks(CALLS)) {
@@ -88,14 +97,15 @@ impl<T: Copy + From<bool>, const N: usize> Writer<T, N> {
     /// A row with no times yet; its answers are checked.
     fn row(&self, input: Input, tally: &mut Tally) -> Row<T> {
         let (sheet, sequence) = (input.sheet.bytes(), sequence_bytes(&input.entries));
-        let (_, unfolded) = unfold(&sheet, &sequence).expect("they are accepted");
-        let expected = (self.expected)(&unfolded);
+        let numbers = |by: Derivation| (self.expected)(&unfold(by, &sheet, &sequence).expect("they are accepted"));
+        let (expected, before) = (numbers(Unfolded::new), numbers(Unfolded::unshortened));
+        let numbers = self.shown.iter().map(|&(_, place)| [expected[place], before[place] - expected[place]]).collect();
         let mut out = vec![T::from(false); expected[0] as usize];
         let name = format!("{}, {}", self.name, input.name);
         check(tally, &name, (self.call)(&sheet, &sequence, &mut out) == Ok(expected));
         check(tally, &name, (self.call)(&sheet, &sequence, &mut []) == Err(10));
         check(tally, &name, binding::test(&sheet, &sequence).is_ok());
-        Row { input, sheet, sequence, out, times: Vec::new() }
+        Row { input, sheet, sequence, out, numbers, times: Vec::new() }
     }
 
     fn call(&self, Row { sheet, sequence, out, .. }: &mut Row<T>, which: usize) {
@@ -114,6 +124,8 @@ struct Row<T> {
     sequence: Vec<u8>,
     /// As long as the output.
     out: Vec<T>,
+    /// The numbers in the table, the words first, each with how many there are fewer than before W2.
+    numbers: Vec<[u64; 2]>,
     times: Vec<f64>,
 }
 
@@ -125,16 +137,23 @@ impl<T> Row<T> {
 
     fn print(&self) {
         let [fill, _, empty, call] = self.times[..] else { unreachable!() };
-        let sizes = self.sizes().map(|size| size.to_string()).join(" | ");
-        let ratios = [self.out.len() as f64 / call / 1e3, call / fill, empty / call];
-        println!("| {} | {sizes} | {} | {} |", self.input.name, columns(self.times.clone()), columns(ratios));
+        let [rules, entries, words] = self.sizes();
+        let numbers = self.numbers.iter().flatten().map(u64::to_string).collect::<Vec<_>>().join(" | ");
+        let (times, ratios) = (self.times.clone(), [words as f64 / call / 1e3, call / fill, empty / call]);
+        println!(
+            "| {} | {rules} | {entries} | {numbers} | {} | {} |",
+            self.input.name,
+            columns(times),
+            columns(ratios)
+        );
     }
 
     /// How many times as much as for a smaller input.
     fn print_growth(&self, name: &str, smaller: &Row<T>) {
         let sizes = self.sizes().into_iter().zip(smaller.sizes()).map(|(size, less)| size as f64 / less as f64);
         let times = self.times.iter().zip(&smaller.times).map(|(time, less)| time / less);
-        println!("| {name} | {} | | | |", columns(sizes.chain(times)));
+        let blank = " |".repeat(2 * self.numbers.len() - 1);
+        println!("| {name} | {} |{blank} {} | | | |", columns(sizes), columns(times));
     }
 }
 

@@ -1,11 +1,11 @@
 //! Cases with the reference's answers, and the levels at which each answer stands.
 
-use rulesheet_tests::reference::{self, read_sequence, read_sheet, unfold};
+use rulesheet_tests::reference::{self, read_sequence, read_sheet, Unfolded};
 use rulesheet_tests::report::Statistics;
 use rulesheet_tests::service::{Answer, Argument, Call, Operation};
 use rulesheet_tests::sheet::{set_length, CHOICE};
 use rulesheet_tests::vectors;
-use std::collections::{BTreeMap, HashSet};
+use std::collections::HashSet;
 use std::{fs, path::Path};
 
 /// The level after the last request.
@@ -16,36 +16,53 @@ pub struct Cases {
     lines: Vec<String>,
     seen: HashSet<String>,
     statistics: Statistics,
+    /// The calls with an answer that W2 changed.
+    shortened: usize,
 }
 
 impl Cases {
-    /// Adds a case, once, and hands its answer back. Of reading, also the refusal that W1 took away.
+    /// Adds a case, once, and hands its answer back. Of reading, also the refusal that W1 took away; of unfolding, also the
+    /// answer that W2 changed.
     pub fn add(&mut self, call: Call) -> Answer {
         let answer = reference::answer(&call);
-        let from = from(&call);
+        let mut from = from(&call);
         if from == 1 && call.operation == Operation::Read {
             self.add_line(0, 0, &call, &Answer::Refused(5));
+        }
+        if let Some(before) = before_w2(&call).filter(|before| *before != answer) {
+            self.shortened += usize::from(self.add_line(from, 1, &call, &before));
+            from = 2;
         }
         self.add_line(from, until(&call, &answer), &call, &answer);
         answer
     }
 
-    fn add_line(&mut self, from: u32, until: u32, call: &Call, answer: &Answer) {
+    /// Whether the line is new.
+    fn add_line(&mut self, from: u32, until: u32, call: &Call, answer: &Answer) -> bool {
         let line = vectors::format(from, until, call, answer);
-        if self.seen.insert(line.clone()) {
+        let new = self.seen.insert(line.clone());
+        if new {
             self.lines.push(line);
             self.statistics.add(call.operation, answer);
         }
+        new
     }
 
     /// Writes the file and prints how often each kind of answer came up.
     pub fn write(&self, folder: &Path, name: &str) {
         fs::write(folder.join(name), self.lines.join("\n") + "\n").unwrap_or_else(|error| panic!("{name}: {error}"));
-        print!("{name}: {} cases\n{}", self.lines.len(), self.statistics);
+        println!("{name}: {} cases, {} calls with an answer that W2 changed", self.lines.len(), self.shortened);
+        print!("{}", self.statistics);
     }
 }
 
-/// The first level at which the answer stands: W1 admits choice rules, where there was a refusal by 5.
+/// The answer before W2 of an operation that unfolds.
+fn before_w2(call: &Call) -> Option<Answer> {
+    let unfolds = matches!(call.operation, Operation::Unfolded | Operation::Clauses | Operation::Program);
+    unfolds.then(|| reference::answer_by(Unfolded::unshortened, call))
+}
+
+/// The first level at which the answer stands, if W2 left it as it was: W1 admits choice rules, where there was a refusal by 5.
 fn from(call: &Call) -> u32 {
     match call.operation {
         Operation::Program => from(&reference::program_call(&call.sheet)),
@@ -91,8 +108,6 @@ fn until(call: &Call, answer: &Answer) -> u32 {
         Answer::Refused(1) if call.sheet.len() >= 13 && call.sheet[0] == 2 => 7,
         // W10 judges the form of the sequence before the components.
         Answer::Refused(7) if call.operation.takes(Argument::Sequence) && malformed(call) => 9,
-        // W2 drops further rules.
-        Answer::Refused(10) | Answer::Unfolded(_) | Answer::Clauses { .. } if shortened(call) => 1,
         // W8 answers with a second number.
         Answer::Count { .. } => 7,
         Answer::Text(_) => {
@@ -106,17 +121,4 @@ fn until(call: &Call, answer: &Answer) -> u32 {
 fn malformed(call: &Call) -> bool {
     let atoms = read_sheet(&call.sheet).expect("7 is asked of sheets that pass 1 to 6 and 13").all_atoms();
     read_sequence(&call.sequence, atoms as u8).is_err()
-}
-
-/// Whether some kept rule reads a copy of its own component that kept no rule.
-fn shortened(call: &Call) -> bool {
-    let Ok((graph, unfolded)) = unfold(&call.sheet, &call.sequence) else {
-        return false;
-    };
-    let empty: BTreeMap<u32, u8> =
-        unfolded.copies.iter().filter(|copy| copy.bodies.is_empty()).map(|copy| (copy.variable, copy.atom)).collect();
-    unfolded.copies.iter().any(|copy| {
-        let mut positives = copy.bodies.iter().flat_map(|body| &body.positives);
-        positives.any(|variable| empty.get(variable).is_some_and(|&atom| graph.component(copy.atom).contains(&atom)))
-    })
 }

@@ -2,10 +2,10 @@
 
 use crate::cases::Cases;
 use crate::choices;
-use rulesheet_tests::inputs::{any_sheet, damaged, Style};
+use rulesheet_tests::inputs::{any_sheet, barely_entered, cycle, damaged, Shape, Style};
 use rulesheet_tests::random::Random;
 use rulesheet_tests::reference::Graph;
-use rulesheet_tests::sequences::{any_sequence, mixed};
+use rulesheet_tests::sequences::{any_sequence, mixed, reordered};
 use rulesheet_tests::service::{Call, Operation};
 use rulesheet_tests::sheet::{constraint, rule, sequence_bytes, Record, Sheet};
 
@@ -34,6 +34,13 @@ pub fn cases() -> Cases {
     for _ in 0..20 {
         let sheet = any_sheet(&mut random);
         run(&mut cases, &[sheet.bytes(), sequence_bytes(&Graph::new(&sheet).default_sequence())]);
+    }
+    for shape in Shape::ALL {
+        for size in [2, 3, 5] {
+            let sheet = barely_entered(&mut random, shape, size);
+            let entries = reordered(&mut random, &Graph::new(&sheet));
+            run(&mut cases, &[sheet.bytes(), sequence_bytes(&entries)]);
+        }
     }
     cases
 }
@@ -70,5 +77,10 @@ fn room(cases: &mut Cases) {
         // 630 copies of 26 words each, and a word for each constraint.
         let sheet = Sheet::new(1, [facts.clone(), words(number)].concat());
         run(cases, &[sheet.bytes(), sequence_bytes(&[0; 630])]);
+    }
+    for number in 22..=25 {
+        // One of those copies less, and three of 2 words: before W2 two of them kept a rule, and nothing fitted.
+        let sheet = Sheet::new(3, [facts.clone(), cycle(&[1, 2]), words(number)].concat());
+        run(cases, &[sheet.bytes(), sequence_bytes(&[&[0; 629][..], &[1, 2, 1]].concat())]);
     }
 }

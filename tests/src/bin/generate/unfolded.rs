@@ -2,12 +2,14 @@
 
 use crate::cases::Cases;
 use crate::choices;
-use rulesheet_tests::inputs::{connected, cycle, Shape, Style};
+use rulesheet_tests::inputs::{barely_entered, connected, cycle, Shape, Style};
 use rulesheet_tests::random::Random;
-use rulesheet_tests::reference::Graph;
-use rulesheet_tests::sequences::{lengthened, malformed, minimal, mixed, without, without_fresh, MOST_ENTRIES};
+use rulesheet_tests::reference::{answer_by, Graph, Unfolded};
+use rulesheet_tests::sequences::{
+    delayed, lengthened, malformed, minimal, mixed, reordered, without, without_fresh, MOST_ENTRIES,
+};
 use rulesheet_tests::service::{Call, Operation};
-use rulesheet_tests::sheet::{constraint, rule, sequence_bytes, Sheet};
+use rulesheet_tests::sheet::{choice, constraint, rule, sequence_bytes, Record, Sheet};
 
 const OPERATIONS: [Operation; 2] = [Operation::Unfolded, Operation::Clauses];
 
@@ -32,6 +34,15 @@ pub fn cases() -> Cases {
     long_outputs(&mut cases, &mut random);
     refusals(&mut cases, &mut random);
     with_choices(&mut cases, &mut random);
+    never_on(&mut cases, &mut random);
+    one_way_in(&mut cases, &mut random);
+    dead_stretches(&mut cases, &mut random);
+    for size in 2..=10 {
+        for shape in Shape::ALL {
+            let sheet = barely_entered(&mut random, shape, size);
+            late_sequences(&mut cases, &mut random, &sheet);
+        }
+    }
     cases
 }
 
@@ -57,22 +68,25 @@ fn with_choices(cases: &mut Cases, random: &mut Random) {
     }
 }
 
-/// Both operations, with the room that is needed and with another room near it.
+/// Both operations, with the room that is needed, with another room near it, and with one near the room needed before W2.
 fn ask(cases: &mut Cases, random: &mut Random, sheet: &Sheet, entries: &[u8]) {
+    let rooms: [fn(usize) -> usize; 8] = [
+        |need| need,
+        |need| need,
+        |need| need.saturating_sub(1),
+        |need| need.saturating_sub(1),
+        |_| 0,
+        |need| need / 2,
+        |need| need + 1,
+        |need| need + 99,
+    ];
     for operation in OPERATIONS {
         let call = Call::new(operation, &sheet.bytes()).sequence(&sequence_bytes(entries));
         let need = cases.add(call.clone()).length();
-        let room = *random.pick(&[
-            need,
-            need,
-            need.saturating_sub(1),
-            need.saturating_sub(1),
-            0,
-            need / 2,
-            need + 1,
-            need + 99,
-        ]);
-        cases.add(call.room(room));
+        let needed = answer_by(Unfolded::unshortened, &call).length();
+        let room = random.pick(&rooms);
+        cases.add(call.clone().room(room(need)));
+        cases.add(call.room(room(needed)));
     }
 }
 
@@ -87,6 +101,17 @@ fn some_sequences(cases: &mut Cases, random: &mut Random, sheet: &Sheet) {
     random.shuffle(&mut sequences);
     for entries in &sequences[..2] {
         ask(cases, random, sheet, entries);
+    }
+}
+
+/// Passing sequences along which copies keep no rule at first.
+fn late_sequences(cases: &mut Cases, random: &mut Random, sheet: &Sheet) {
+    let graph = Graph::new(sheet);
+    let reordered = reordered(random, &graph);
+    let minimal = minimal(random, &graph, &reordered);
+    let delayed = delayed(random, &graph, &minimal, 9);
+    for entries in [reordered, delayed] {
+        ask(cases, random, sheet, &entries);
     }
 }
 
@@ -150,6 +175,88 @@ fn small_sheets(cases: &mut Cases, random: &mut Random) {
     for (sheet, sequences) in small {
         for entries in sequences {
             ask(cases, random, &sheet, entries);
+        }
+    }
+}
+
+/// Copies that keep no rule in the smallest sheets, and what reads them.
+fn never_on(cases: &mut Cases, random: &mut Random) {
+    let pair = cycle(&[0, 1]);
+    let three = cycle(&[2, 1, 0]);
+    let sheets: [(Vec<Record>, &[&[u8]]); 14] = [
+        (cycle(&[0, 1, 2]), &[&[0, 1, 2, 0, 1, 2, 0, 1, 2], &[2, 1, 0, 2, 1, 0, 2, 1, 0]]),
+        // A way in: copies before it keep no rule, and those after it bring on one another.
+        ([&pair[..], &[rule(1, &[], &[])]].concat(), &[&[0, 1, 0, 1, 2], &[0, 0, 0, 1, 0, 2], &[1, 0, 1, 0, 2]]),
+        ([&three[..], &[rule(2, &[], &[])]].concat(), &[&[0, 1, 2, 0, 1, 2, 0, 1, 2], &[2, 1, 0, 2, 1, 0]]),
+        (
+            [&three[..], &[rule(0, &[], &[1])]].concat(),
+            &[&[1, 2, 0, 1, 2, 0, 1, 2, 0], &[1, 1, 2, 2, 0, 1, 2, 0, 1, 2]],
+        ),
+        // A self loop beside another rule: the copy comes on by that rule, and then reads itself.
+        ([&pair[..], &[rule(0, &[0], &[]), rule(1, &[], &[2])]].concat(), &[&[0, 0, 1, 0, 0, 2], &[1, 0, 0, 1, 2]]),
+        (vec![rule(0, &[0], &[]), rule(0, &[0, 1], &[]), rule(1, &[], &[])], &[&[0, 1, 2, 0, 0]]),
+        // Two atoms of the component in a body, of which one keeps no rule, for some time or for ever.
+        (
+            vec![rule(0, &[1, 2], &[]), rule(1, &[0], &[]), rule(2, &[0], &[]), rule(2, &[], &[])],
+            &[&[2, 1, 0, 1, 2, 0]],
+        ),
+        (
+            vec![rule(0, &[1, 2], &[]), rule(1, &[0], &[]), rule(1, &[2], &[]), rule(2, &[0], &[]), rule(2, &[], &[])],
+            &[&[1, 0, 2, 0, 1, 0, 2, 1, 0], &[2, 0, 1, 0, 2, 1, 0, 1]],
+        ),
+        // Copies of another component keep no rule and drop none: no rule at all, a self loop, a loop; and under a `not`.
+        (vec![rule(0, &[1], &[]), rule(2, &[1, 2], &[]), rule(2, &[0], &[])], &[&[0, 1, 2, 2], &[1, 0, 2, 1, 2]]),
+        (vec![rule(0, &[2], &[]), rule(1, &[0, 2], &[]), rule(2, &[2], &[])], &[&[2, 0, 1], &[0, 1, 2, 2, 0]]),
+        ([&pair[..], &[rule(2, &[0], &[]), rule(2, &[1], &[1])]].concat(), &[&[0, 1, 0, 2], &[2, 1, 0, 1, 2]]),
+        ([&pair[..], &[rule(2, &[], &[0, 1]), constraint(&[0], &[1])]].concat(), &[&[0, 1, 0, 2], &[2, 1, 0, 1, 2]]),
+        // Choice rules: the fresh atom is in a component of its own, and keeps what its head drops.
+        (vec![choice(0, &[1], &[]), choice(1, &[0], &[2])], &[&[3, 0, 1, 0, 4, 2], &[1, 0, 1, 4, 2, 3, 0, 1]]),
+        (
+            vec![choice(0, &[1], &[]), rule(1, &[0], &[]), choice(1, &[], &[]), choice(0, &[0, 1], &[])],
+            &[&[0, 1, 0, 1, 2, 3, 4, 5, 0], &[5, 4, 3, 2, 0, 0, 1, 0, 1]],
+        ),
+    ];
+    for (records, sequences) in sheets {
+        let sheet = Sheet::new(3, records);
+        for entries in sequences {
+            ask(cases, random, &sheet, entries);
+        }
+    }
+}
+
+/// Cycles with one way in, at each place. Along a falling sequence a copy brings on the next one in the same round, along a
+/// rising one in the round after it.
+fn one_way_in(cases: &mut Cases, random: &mut Random) {
+    for size in [2, 4, 7, 10] {
+        let falling: Vec<u8> = (0..size).rev().collect();
+        for place in 0..size {
+            let ways_in = [
+                rule(place, &[], &[]),
+                rule(place, &[], &[(place + 1) % size]),
+                rule(place, &[size], &[]),
+                choice(place, &[], &[]),
+            ];
+            let way_in = ways_in[usize::from(place) % ways_in.len()].clone();
+            let sheet = Sheet::new(size + 1, [cycle(&falling), vec![way_in]].concat());
+            let default = Graph::new(&sheet).default_sequence();
+            let outside = &default[usize::from(size) * usize::from(size)..];
+            ask(cases, random, &sheet, &default);
+            ask(cases, random, &sheet, &[&falling.repeat(size.into())[..], outside].concat());
+        }
+    }
+}
+
+/// Many entries in a row whose copies keep no rule, up to the longest sequence.
+fn dead_stretches(cases: &mut Cases, random: &mut Random) {
+    for size in [3, 10] {
+        let ring: Vec<u8> = (0..size).collect();
+        let shut = Sheet::new(size, cycle(&ring));
+        let default = Graph::new(&shut).default_sequence();
+        let open = Sheet::new(size, [cycle(&ring), vec![rule(size - 1, &[], &[])]].concat());
+        for number in [20, 100, MOST_ENTRIES - default.len()] {
+            let stretch: Vec<u8> = (0..size - 1).cycle().take(number).collect();
+            ask(cases, random, &shut, &[&default[..], &stretch].concat());
+            ask(cases, random, &open, &[&stretch[..], &default].concat());
         }
     }
 }
