@@ -1,4 +1,4 @@
-/* Sheet A from C: its default sequence, its clauses and its settled states; and a sheet with a choice rule. */
+/* Sheet A from C: its default sequence, its clauses and its settled states; and a sheet with a choice rule, also as text. */
 #include "rulesheet.h"
 #include <stdio.h>
 
@@ -6,6 +6,7 @@ int main(void) {
     const uint8_t sheet[] = {1, 0, 25, 3, 4, 4, 0, 0, 1, 1, 4, 0, 1, 1, 0, 4, 0, 0, 0, 2, 4, 0, 2, 0, 0};
     const uint8_t window[] = {1, 0, 9, 1, 1, 3, 2, 0, 0}; /* atom 0, a window's contact, may be in or not */
     uint8_t sequence[RULESHEET_DEFAULT_ROOM];
+    uint8_t text[RULESHEET_LPARSE_ROOM];
     int32_t words[16384];
     uint64_t written, variables, clauses, count, verdict;
 
@@ -29,6 +30,10 @@ int main(void) {
         return 1;
     }
     printf("with a choice rule: %d, verdict %d\n", (int)count, (int)verdict);
+    if (rulesheet_lparse(window, sizeof window, text, sizeof text, &written) != 0) {
+        return 1;
+    }
+    printf("for a solver:\n%.*s", (int)written, (const char *)text);
     printf("no bytes: refused %u\n", rulesheet_count(sheet, 0, &count, &verdict));
     return 0;
 }

@@ -1,4 +1,4 @@
-//! Sheet A from Rust: its default sequence, its clauses and its settled states; and a sheet with a choice rule.
+//! Sheet A from Rust: its default sequence, its clauses and its settled states; and a sheet with a choice rule, also as text.
 
 #[path = "../include/rulesheet.rs"]
 mod rulesheet;
@@ -19,8 +19,12 @@ fn main() -> Result<(), u32> {
     let [count, verdict] = rulesheet::count(&sheet)?;
     println!("settled states: {count}, verdict {verdict}");
     // Atom 0, a window's contact, may be in or not.
-    let [count, verdict] = rulesheet::count(&[1, 0, 9, 1, 1, 3, 2, 0, 0])?;
+    let window = [1, 0, 9, 1, 1, 3, 2, 0, 0];
+    let [count, verdict] = rulesheet::count(&window)?;
     println!("with a choice rule: {count}, verdict {verdict}");
+    let mut text = [0; rulesheet::LPARSE_ROOM];
+    let [written] = rulesheet::lparse(&window, &mut text)?;
+    print!("for a solver:\n{}", String::from_utf8_lossy(&text[..written as usize]));
     println!("no bytes: refused {}", rulesheet::count(&[]).unwrap_err());
     Ok(())
 }

@@ -1,15 +1,15 @@
 /* Rule sheets: normal logic programs with choice rules, in bytes. The library is librulesheet.a, for x86-64 Linux.
  *
  * Records name the written atoms, those below the sheet's number n. Each choice rule has a fresh atom of its own, numbered
- * from n on in the order of the records. Reading and bodies speak of written atoms alone; components, sequences, the
- * unfolded program and the clauses speak of all atoms, fresh ones included.
+ * from n on in the order of the records. Reading, bodies and the text for solvers speak of written atoms alone; components,
+ * sequences, the unfolded program and the clauses speak of all atoms, fresh ones included.
  *
  * Every function returns 0, or refuses with the number of the first question that is answered by no. On a refusal nothing
  * that was lent is changed. On success the numbers are stored, and of out only the first *written elements are changed.
  *
  * Lent memory does not overlap; a pointer may not be null, even with length 0. A function keeps nothing from one call to
- * the next and allocates nothing. A call takes at most 36 KB of stack: as measured, read, body, components and default
- * 8 KB, count 11 KB, test 19 KB, unfolded and clauses 32 KB. */
+ * the next and allocates nothing. A call takes at most 36 KB of stack: as measured, read, body, components, default
+ * and lparse 8 KB, count 11 KB, test 19 KB, unfolded and clauses 32 KB. */
 
 #ifndef RULESHEET_H
 #define RULESHEET_H
@@ -46,11 +46,13 @@ enum rulesheet_verdict {
 };
 
 /* Room in out that is enough for every legal input, in elements. Some input needs all of it, but for the default sequence:
- * the longest has 619 bytes, and 643 hold any sequence that is accepted. No sheet with choice rules needs as many words. */
+ * the longest has 619 bytes, and 643 hold any sequence that is accepted. No sheet with choice rules needs as many words, or
+ * as many bytes of text. */
 #define RULESHEET_COMPONENTS_ROOM 64
 #define RULESHEET_DEFAULT_ROOM 643
 #define RULESHEET_UNFOLDED_ROOM 9585475
 #define RULESHEET_CLAUSES_ROOM 38190594
+#define RULESHEET_LPARSE_ROOM 49088
 
 /* Reads a sheet: its number of written atoms and its number of records. */
 uint32_t rulesheet_read(const uint8_t *sheet, size_t sheet_len, uint64_t *atoms, uint64_t *records);
@@ -76,6 +78,12 @@ uint32_t rulesheet_unfolded(const uint8_t *sheet, size_t sheet_len, const uint8_
 /* Writes the clauses as signed words, each clause ending in 0; out_len is the number of words lent. */
 uint32_t rulesheet_clauses(const uint8_t *sheet, size_t sheet_len, const uint8_t *sequence, size_t sequence_len,
                            int32_t *out, size_t out_len, uint64_t *written, uint64_t *variables, uint64_t *clauses);
+
+/* Writes the sheet as text in the format of lparse (smodels), which answer set solvers read; out_len is the number of bytes
+ * lent. Atom a is a + 2 and has the name aN, N being a in decimal; 1 is the head of constraints and must be out. A choice rule has
+ * type 3, and no fresh atom is written. The text's stable models, by those names, are the settled states, cut to the written
+ * atoms. It asks what reading asks, then for room; the longest text has 49,088 bytes. No byte 0 stands behind it. */
+uint32_t rulesheet_lparse(const uint8_t *sheet, size_t sheet_len, uint8_t *out, size_t out_len, uint64_t *written);
 
 /* Counts the settled states (answer sets), at most 65536, with the verdict. No two of them have the same written atoms. */
 uint32_t rulesheet_count(const uint8_t *sheet, size_t sheet_len, uint64_t *count, uint64_t *verdict);

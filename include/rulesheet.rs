@@ -49,6 +49,13 @@ pub mod raw {
             variables: *mut u64,
             clauses: *mut u64,
         ) -> u32;
+        pub fn rulesheet_lparse(
+            sheet: *const u8,
+            sheet_len: usize,
+            out: *mut u8,
+            out_len: usize,
+            written: *mut u64,
+        ) -> u32;
         pub fn rulesheet_count(sheet: *const u8, sheet_len: usize, count: *mut u64, verdict: *mut u64) -> u32;
     }
 }
@@ -58,6 +65,7 @@ pub const COMPONENTS_ROOM: usize = 64;
 pub const DEFAULT_ROOM: usize = 643;
 pub const UNFOLDED_ROOM: usize = 9_585_475;
 pub const CLAUSES_ROOM: usize = 38_190_594;
+pub const LPARSE_ROOM: usize = 49_088;
 
 /// The numbers of written atoms and of records.
 pub fn read(sheet: &[u8]) -> Result<[u64; 2], u32> {
@@ -111,6 +119,14 @@ pub fn clauses(sheet: &[u8], sequence: &[u8], out: &mut [i32]) -> Result<[u64; 3
     let (w, v, c) = (&mut written, &mut variables, &mut clauses);
     let status = unsafe { raw::rulesheet_clauses(s, sheet.len(), q, sequence.len(), o, room, w, v, c) };
     answer(status, [written, variables, clauses])
+}
+
+/// Writes the sheet as text in the format of lparse: the number of bytes.
+pub fn lparse(sheet: &[u8], out: &mut [u8]) -> Result<[u64; 1], u32> {
+    let mut written = 0;
+    let (o, room) = (out.as_mut_ptr(), out.len());
+    let status = unsafe { raw::rulesheet_lparse(sheet.as_ptr(), sheet.len(), o, room, &mut written) };
+    answer(status, [written])
 }
 
 /// The number of settled states, and the verdict: 0 for none, 1 for clear, 2 for split.

@@ -1,4 +1,4 @@
-"""Answer sets of sheets and models of clauses, by clasp and gringo (Debian packages of these names)."""
+"""Answer sets of sheets and of lparse texts, and models of clauses, by clasp and gringo (Debian packages of these names)."""
 
 import shutil
 import subprocess
@@ -17,7 +17,12 @@ def needed():
 
 def answer_sets(sheet, most=MOST_STATES):
     """The answer sets of a sheet's bytes, each as the rising list of its written atoms; none where there are more than so many."""
-    ground = run(["gringo"], "\n".join(asp_rules(sheet)).encode())
+    return named_sets(run(["gringo"], "\n".join(asp_rules(sheet)).encode()), most)
+
+
+def named_sets(ground, most):
+    """The answer sets of a program that clasp reads, as gringo's or an lparse text, each as the rising list of N in its names aN; none
+    where there are more than so many."""
     lines = run(["clasp", str(most + 1)], ground.encode(), CLASP_STATUS).splitlines()
     sets = [lines[i + 1] for i, line in enumerate(lines) if line.startswith("Answer:")]
     if len(sets) > most:

@@ -1,5 +1,6 @@
 /* How much stack each operation takes, on sheets and sequences that lead through all of its code: the stack of a call is
- * filled with a pattern beforehand. Prints bytes, and for the operations that write words the length of the longest output. */
+ * filled with a pattern beforehand. Prints bytes, and for the operations that write words or a text the length of the longest
+ * output. */
 #define _GNU_SOURCE
 #include "rulesheet.h"
 #include <stdio.h>
@@ -31,6 +32,7 @@ static void clauses_call(void) {
     status = rulesheet_clauses(sheet, sheet_len, sequence, sequence_len, (int32_t *)out, ROOM, &numbers[0], &numbers[1],
                                &numbers[2]);
 }
+static void lparse_call(void) { status = rulesheet_lparse(sheet, sheet_len, (uint8_t *)out, ROOM, numbers); }
 static void count_call(void) { status = rulesheet_count(sheet, sheet_len, &numbers[0], &numbers[1]); }
 static void nothing(void) {}
 
@@ -110,6 +112,17 @@ static void longest(void) {
     }
 }
 
+/* 128 rules for atom 63 with every atom in both lists: the longest text. */
+static void longest_text(void) {
+    begin(64);
+    for (int rule = 0; rule < 128; rule++) {
+        add_rule(63, 0, 64, 0, 64);
+    }
+    end();
+    rulesheet_default(sheet, sheet_len, sequence, sizeof sequence, numbers);
+    sequence_len = numbers[0];
+}
+
 /* Six complete components of ten atoms, and rules that negate 16 atoms; the default sequence. */
 static void complete(void) {
     begin(60);
@@ -173,9 +186,17 @@ int main(void) {
     static const struct {
         const char *name;
         void (*call)(void);
-    } calls[] = {{"read", read_call},   {"body", body_call},         {"components", components_call}, {"default", default_call},
-                 {"test", test_call},   {"unfolded", unfolded_call}, {"clauses", clauses_call},       {"count", count_call}};
-    static void (*const inputs[])(void) = {longest, complete, decided, most_rules, chosen};
+        const char *unit; /* of an output whose length is printed */
+    } calls[] = {{"read", read_call, NULL},
+                 {"body", body_call, NULL},
+                 {"components", components_call, NULL},
+                 {"default", default_call, NULL},
+                 {"test", test_call, NULL},
+                 {"unfolded", unfolded_call, "words"},
+                 {"clauses", clauses_call, "words"},
+                 {"lparse", lparse_call, "bytes"},
+                 {"count", count_call, NULL}};
+    static void (*const inputs[])(void) = {longest, longest_text, complete, decided, most_rules, chosen};
     out = malloc(sizeof *out * ROOM);
     if (out == NULL) {
         return 1;
@@ -191,8 +212,8 @@ int main(void) {
             written = status == 0 && numbers[0] > written ? numbers[0] : written;
         }
         printf("%-10s %7zu bytes of stack\n", calls[call].name, most);
-        if (calls[call].call == unfolded_call || calls[call].call == clauses_call) {
-            printf("%-10s %7llu words\n", calls[call].name, (unsigned long long)written);
+        if (calls[call].unit != NULL) {
+            printf("%-10s %7llu %s\n", calls[call].name, (unsigned long long)written, calls[call].unit);
         }
     }
     return 0;

@@ -1,13 +1,13 @@
 //! The library behind include/rulesheet.h. Every call checks that memory which the answer leaves alone is untouched.
 
 use crate::binding::raw::{
-    rulesheet_body, rulesheet_clauses, rulesheet_components, rulesheet_count, rulesheet_default, rulesheet_read,
-    rulesheet_test, rulesheet_unfolded,
+    rulesheet_body, rulesheet_clauses, rulesheet_components, rulesheet_count, rulesheet_default, rulesheet_lparse,
+    rulesheet_read, rulesheet_test, rulesheet_unfolded,
 };
 use crate::lent::{Lent, Unchanged};
 use crate::service::{Answer, Call, Operation, Service};
 use std::io::Write;
-use std::path::PathBuf;
+use std::path::{Path, PathBuf};
 use std::process::{Command, Stdio};
 use std::thread;
 
@@ -17,13 +17,22 @@ type Writer = unsafe extern "C" fn(*const u8, usize, *mut u8, usize, *mut u64) -
 const SPARE: usize = 1_000;
 
 pub struct Library {
-    /// The clause program.
-    program: PathBuf,
+    /// The folder of the programs.
+    programs: PathBuf,
 }
 
 impl Library {
     pub fn new() -> Library {
-        Library { program: PathBuf::from(concat!(env!("CARGO_MANIFEST_DIR"), "/../target/bin/clauses")) }
+        Library { programs: PathBuf::from(concat!(env!("CARGO_MANIFEST_DIR"), "/../target/bin")) }
+    }
+
+    /// The program behind an operation that runs one.
+    fn program(&self, operation: Operation) -> Option<PathBuf> {
+        match operation {
+            Operation::Program => Some(self.programs.join("clauses")),
+            Operation::LparseProgram => Some(self.programs.join("lparse")),
+            _ => None,
+        }
     }
 }
 
@@ -35,23 +44,27 @@ impl Default for Library {
 
 impl Service for Library {
     fn offers(&self, operation: Operation) -> bool {
-        operation != Operation::Program || self.program.exists()
+        self.program(operation).is_none_or(|program| program.exists())
     }
 
     fn answer(&self, call: &Call) -> Result<Answer, String> {
+        if let Some(program) = self.program(call.operation) {
+            return run(&program, &call.sheet);
+        }
         let sheet = Input::new(&call.sheet);
         let sequence = Input::new(&call.sequence);
         let room = call.room.unwrap_or(SPARE);
         let answer = match call.operation {
             Operation::Read => read(&sheet),
             Operation::Body => body(&sheet, call.number),
-            Operation::Components => bytes(rulesheet_components, &sheet, room),
-            Operation::Default => bytes(rulesheet_default, &sheet, room),
+            Operation::Components => bytes(rulesheet_components, Answer::Bytes, &sheet, room),
+            Operation::Default => bytes(rulesheet_default, Answer::Bytes, &sheet, room),
             Operation::Test => test(&sheet, &sequence),
             Operation::Unfolded => unfolded(&sheet, &sequence, room),
             Operation::Clauses => clauses(&sheet, &sequence, room),
             Operation::Count => count(&sheet),
-            Operation::Program => self.run_program(&call.sheet),
+            Operation::Lparse => bytes(rulesheet_lparse, Answer::Lparse, &sheet, room),
+            Operation::Program | Operation::LparseProgram => unreachable!("it runs a program"),
         }?;
         if sheet.read_back() != call.sheet || sequence.read_back() != call.sequence {
             return Err("the input was changed".into());
@@ -121,10 +134,10 @@ fn body(sheet: &Input, number: u64) -> Result<Answer, String> {
     Ok(Answer::Body { positives: positives.value()?, slice, offset })
 }
 
-fn bytes(function: Writer, sheet: &Input, room: usize) -> Result<Answer, String> {
+fn bytes(function: Writer, answer: fn(Vec<u8>) -> Answer, sheet: &Input, room: usize) -> Result<Answer, String> {
     let (mut out, mut written) = (Lent::new(room), Lent::one());
     match unsafe { function(sheet.pointer(), sheet.length(), out.pointer(), out.room(), written.pointer()) } {
-        0 => Ok(Answer::Bytes(out.output(written.value()?)?)),
+        0 => Ok(answer(out.output(written.value()?)?)),
         status => refused(status, &[&out, &written]),
     }
 }
@@ -180,17 +193,14 @@ fn count(sheet: &Input) -> Result<Answer, String> {
     }
 }
 
-impl Library {
-    fn run_program(&self, input: &[u8]) -> Result<Answer, String> {
-        let failed = |error: std::io::Error| format!("{}: {error}", self.program.display());
-        let mut child =
-            Command::new(&self.program).stdin(Stdio::piped()).stdout(Stdio::piped()).spawn().map_err(failed)?;
-        let mut pipe = child.stdin.take().expect("standard input is a pipe");
-        // The program may end before it has read everything.
-        let output = thread::scope(|scope| {
-            scope.spawn(move || pipe.write_all(input).ok());
-            child.wait_with_output().map_err(failed)
-        })?;
-        Ok(Answer::Text(String::from_utf8_lossy(&output.stdout).into_owned()))
-    }
+fn run(program: &Path, input: &[u8]) -> Result<Answer, String> {
+    let failed = |error: std::io::Error| format!("{}: {error}", program.display());
+    let mut child = Command::new(program).stdin(Stdio::piped()).stdout(Stdio::piped()).spawn().map_err(failed)?;
+    let mut pipe = child.stdin.take().expect("standard input is a pipe");
+    // The program may end before it has read everything.
+    let output = thread::scope(|scope| {
+        scope.spawn(move || pipe.write_all(input).ok());
+        child.wait_with_output().map_err(failed)
+    })?;
+    Ok(Answer::Text(String::from_utf8_lossy(&output.stdout).into_owned()))
 }

@@ -3,6 +3,7 @@
 mod chains;
 mod choices;
 mod graph;
+mod lparse;
 mod questions;
 mod states;
 mod unfolded;
@@ -10,6 +11,7 @@ mod unfolded;
 pub use chains::all_found;
 pub use choices::expanded;
 pub use graph::Graph;
+pub use lparse::text as lparse_text;
 pub use questions::{sequence as read_sequence, sheet as read_sheet};
 pub use unfolded::Unfolded;
 
@@ -22,8 +24,12 @@ pub type Refusal = u32;
 
 const LARGEST_COMPONENT: usize = 10;
 const MOST_DECIDED: usize = 16;
+/// What a program reads, in bytes.
 const PROGRAM_INPUT: usize = 65_536;
-pub const PROGRAM_ROOM: usize = 16_384;
+/// What the clause program lends, in words.
+const CLAUSE_ROOM: usize = 16_384;
+/// What the program lparse lends, in bytes.
+const LPARSE_ROOM: usize = 65_536;
 
 pub struct Reference;
 
@@ -55,7 +61,8 @@ pub fn answer_by(derivation: Derivation, call: &Call) -> Answer {
         Operation::Unfolded => unfold(derivation, &call.sheet, &call.sequence).map(unfolded),
         Operation::Clauses => unfold(derivation, &call.sheet, &call.sequence).map(clauses),
         Operation::Count => count(&call.sheet),
-        Operation::Program => Ok(Answer::Text(program(derivation, &call.sheet))),
+        Operation::Lparse => lparse(&call.sheet),
+        Operation::Program | Operation::LparseProgram => Ok(Answer::Text(printed(derivation, call))),
     };
     within(answer.unwrap_or_else(Answer::Refused), call.room)
 }
@@ -145,21 +152,30 @@ fn count(sheet: &[u8]) -> Result<Answer, Refusal> {
     Ok(Answer::Count { count, verdict: count.min(2) })
 }
 
-/// The call that the clause program makes: the length field divides the sheet from the sequence.
-pub fn program_call(input: &[u8]) -> Call {
-    let input = &input[..input.len().min(PROGRAM_INPUT)];
+fn lparse(sheet: &[u8]) -> Result<Answer, Refusal> {
+    let (sheet, _) = accepted(sheet)?;
+    Ok(Answer::Lparse(lparse_text(&sheet).into_bytes()))
+}
+
+/// The call that a program makes. To the clause program the length field divides the sheet from the sequence.
+pub fn program_call(program: &Call) -> Call {
+    let input = &program.sheet[..program.sheet.len().min(PROGRAM_INPUT)];
+    if program.operation == Operation::LparseProgram {
+        return Call::new(Operation::Lparse, input).room(LPARSE_ROOM);
+    }
     let length = input.get(1..3).map(|field| usize::from(u16::from_be_bytes([field[0], field[1]])));
     let (sheet, sequence) = match length {
         Some(length) if length <= input.len() => input.split_at(length),
         _ => (input, &[][..]),
     };
-    Call::new(Operation::Clauses, sheet).sequence(sequence).room(PROGRAM_ROOM)
+    Call::new(Operation::Clauses, sheet).sequence(sequence).room(CLAUSE_ROOM)
 }
 
-/// What the clause program prints.
-pub fn program(derivation: Derivation, input: &[u8]) -> String {
-    match answer_by(derivation, &program_call(input)) {
+/// What a program prints.
+fn printed(derivation: Derivation, program: &Call) -> String {
+    match answer_by(derivation, &program_call(program)) {
         Answer::Refused(number) => format!("refused {number}\n"),
+        Answer::Lparse(text) => String::from_utf8(text).expect("it is ASCII"),
         Answer::Clauses { words, variables, clauses } => dimacs(&words, variables, clauses),
         other => unreachable!("{other}"),
     }

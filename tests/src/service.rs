@@ -13,6 +13,8 @@ pub enum Operation {
     Clauses,
     Count,
     Program,
+    Lparse,
+    LparseProgram,
 }
 
 /// An argument of a call, as vector files write it.
@@ -25,7 +27,7 @@ pub enum Argument {
 }
 
 impl Operation {
-    pub const ALL: [Operation; 9] = [
+    pub const ALL: [Operation; 11] = [
         Operation::Read,
         Operation::Body,
         Operation::Components,
@@ -35,6 +37,8 @@ impl Operation {
         Operation::Clauses,
         Operation::Count,
         Operation::Program,
+        Operation::Lparse,
+        Operation::LparseProgram,
     ];
 
     pub fn name(self) -> &'static str {
@@ -48,6 +52,8 @@ impl Operation {
             Operation::Clauses => "clauses",
             Operation::Count => "count",
             Operation::Program => "program",
+            Operation::Lparse => "lparse",
+            Operation::LparseProgram => "lparse-program",
         }
     }
 
@@ -58,9 +64,9 @@ impl Operation {
     pub fn arguments(self) -> &'static [Argument] {
         use Argument::*;
         match self {
-            Operation::Read | Operation::Count | Operation::Program => &[Sheet],
+            Operation::Read | Operation::Count | Operation::Program | Operation::LparseProgram => &[Sheet],
             Operation::Body => &[Sheet, Number],
-            Operation::Components | Operation::Default => &[Sheet, Room],
+            Operation::Components | Operation::Default | Operation::Lparse => &[Sheet, Room],
             Operation::Test => &[Sheet, Sequence],
             Operation::Unfolded | Operation::Clauses => &[Sheet, Sequence, Room],
         }
@@ -75,7 +81,7 @@ impl Operation {
 #[derive(Clone, Debug, PartialEq, Eq)]
 pub struct Call {
     pub operation: Operation,
-    /// For the clause program: its whole input.
+    /// For a program: its whole input.
     pub sheet: Vec<u8>,
     pub number: u64,
     pub sequence: Vec<u8>,
@@ -115,13 +121,14 @@ pub enum Answer {
     Clauses { words: Vec<i32>, variables: u64, clauses: u64 },
     Count { count: u64, verdict: u64 },
     Text(String),
+    Lparse(Vec<u8>),
 }
 
 impl Answer {
     /// The bytes or words written.
     pub fn length(&self) -> usize {
         match self {
-            Answer::Bytes(bytes) => bytes.len(),
+            Answer::Bytes(bytes) | Answer::Lparse(bytes) => bytes.len(),
             Answer::Unfolded(words) => words.len(),
             Answer::Clauses { words, .. } => words.len(),
             _ => 0,
@@ -165,8 +172,8 @@ impl fmt::Display for Answer {
                 write!(f, "ok {} {variables} {clauses} {list}", words.len())
             }
             Answer::Count { count, verdict } => write!(f, "ok {count} {}", verdict_name(*verdict)),
-            Answer::Text(text) if text.len() > 900 => write!(f, "{}", hashed(text.len(), text.bytes())),
-            Answer::Text(text) => write!(f, "{}", text.replace(' ', "_").replace('\n', "/")),
+            Answer::Text(text) => write!(f, "{}", one_field(text.as_bytes())),
+            Answer::Lparse(text) => write!(f, "ok {} {}", text.len(), one_field(text)),
         }
     }
 }
@@ -186,6 +193,19 @@ fn word_list<T: Copy + ToString>(words: &[T], bytes: impl Fn(T) -> [u8; 4]) -> S
         return hashed(words.len(), words.iter().flat_map(|&word| bytes(word)));
     }
     words.iter().map(T::to_string).collect::<Vec<_>>().join(",")
+}
+
+/// A text with `_` for a space and `/` for a line end, so that it is one field. A text that has those, or bytes that are none,
+/// stands in quotes and so equals no vector's.
+fn one_field(text: &[u8]) -> String {
+    if text.len() > 900 {
+        return hashed(text.len(), text.iter().copied());
+    }
+    let shown = String::from_utf8_lossy(text);
+    if shown.contains(['_', '/', char::REPLACEMENT_CHARACTER]) {
+        return format!("{shown:?}");
+    }
+    shown.replace(' ', "_").replace('\n', "/")
 }
 
 /// A long list as its length and its FNV-1a hash.

@@ -86,7 +86,7 @@ impl Case {
         let output = self.answer.strip_prefix("ok ")?.split(' ').next()?;
         match self.call.operation {
             Operation::Components | Operation::Default => Some(unhex(output)?.len()),
-            Operation::Unfolded | Operation::Clauses => output.parse().ok(),
+            Operation::Unfolded | Operation::Clauses | Operation::Lparse => output.parse().ok(),
             _ => None,
         }
     }

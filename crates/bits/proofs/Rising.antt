@@ -17,7 +17,7 @@ unfoldable pub climb : ℕ → ℕ → List ℕ → Bool
 climb low n [] = true
 climb low n (x ∷ l) = leb low x && (ltb x n && climb (suc x) n l)
 
-climb-cons : (low n x : ℕ) (l : List ℕ) → climb low n (x ∷ l) ≡ true → (low ≤ x) × (x < n) × (climb (suc x) n l ≡ true)
+pub climb-cons : (low n x : ℕ) (l : List ℕ) → climb low n (x ∷ l) ≡ true → (low ≤ x) × (x < n) × (climb (suc x) n l ≡ true)
 unfolding climb
 climb-cons low n x l e =
     let r = and-right (leb low x) (ltb x n && climb (suc x) n l) e in

@@ -67,7 +67,7 @@ module _ (n : ℕ) (rs : List Record) (X L : State) (a : ℕ) where
       fires-in (rulesOf n rs) X L a (record { rule = q; stands = rules-in n rs r g q m (fresh k refl); head = h; negatives = rw outside-adding (and-intro (f .0) (not-intro o)); positives = f .1 })
 
 -- The consequences of the free rules that apply in X.
-abbrev freely : List Record → State → State → State
+abbrev pub freely : List Record → State → State → State
 freely rs X = consequences (definites (applies X) (freeRules rs))
 
 -- A record's free rule fires for a.
@@ -120,7 +120,7 @@ module _ (rs : List Record) where
 
 module _ (n : ℕ) (rs : List Record) (A : AllSound n rs) where
   -- The head of a free rule is a written atom.
-  free-head : (c : CountRule) → List·Memᴰ c (freeRules rs) → c .rule .head < n
+  pub free-head : (c : CountRule) → List·Memᴰ c (freeRules rs) → c .rule .head < n
   free-head c m = let u = free-rule-out rs c m in subst (λ c. c .rule .head < n) (u .3) (head-written n (u .0) (A (u .0) (u .1)) (u .2))
 
   -- States that agree on the written atoms agree on the bodies of records, and obey the same constraints.

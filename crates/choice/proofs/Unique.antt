@@ -30,7 +30,7 @@ pub written-within : (n : ℕ) (X : State) (a : ℕ) → projected n X a ≡ tru
 unfolding projected
 written-within n X a e = ltb-true a n (and-left (ltb a n) (X a) e)
 
-written-whole : (n : ℕ) (X : State) → ((a : ℕ) → X a ≡ true → a < n) → projected n X ≡ X
+pub written-whole : (n : ℕ) (X : State) → ((a : ℕ) → X a ≡ true → a < n) → projected n X ≡ X
 unfolding projected
 written-whole n X within = fun-ext (λ a. by-bool (ltb a n) (λ t. rw t refl) (λ f. rw f (sym (is-false (λ e. true-false (lt-ltb a n (within a e)) f)))))
 

@@ -12,7 +12,6 @@ use lib.ListN.{length, length-append, take, drop}
 use lib.Seq.{take-append-seam}
 use mir.Syntax.{w32}
 use mir.Val.{Fits}
-use Rattle.lists.proofs.Bools.{by-bool}
 use Rattle.unfolding.specs.Clauses.{Literal, Clause, variableOf}
 use Rattle.unfolding.specs.Faithful.{clausesOf, variablesOf}
 use Rattle.unfolding.specs.Claims.{Accepted}
@@ -21,31 +20,28 @@ use Rattle.sheet.specs.Sequence.{entries}
 use Rattle.sheet.specs.Sheet.{program}
 use Rattle.sheet.proofs.Walk.{ask-passed, then-passed}
 use Rattle.writer.specs.inner.Wrote.{Wrote}
-use Rattle.writer.proofs.Writing.{wrote-whole}
-use Rattle.dimacs.specs.Text.{sheetOf, sequenceOf, headerText, clauseText, dimacsText, refusedText}
+use Rattle.writer.proofs.Writing.{wrote-front}
+use Rattle.text.specs.Text.{refusedText}
+use Rattle.dimacs.specs.Text.{sheetOf, sequenceOf, headerText, clauseText, dimacsText}
 use Rattle.dimacs.specs.inner.Words.{wordsText}
-use Rattle.dimacs.proofs.Lines.{header-short, refused-short}
+use Rattle.text.proofs.Lines.{refused-short}
+use Rattle.dimacs.proofs.Lines.{header-short}
 use Rattle.dimacs.proofs.Clauses.{clauses-text, words-short, words-small}
-use Rattle.core.specs.Outcome.{refused, answered, outcome, fromClauses}
+use Rattle.core.specs.Outcome.{answered, fromClauses}
 use Rattle.core.specs.Outputs.{clausesOutput, clauseNumbers}
 use Rattle.core.specs.Questions.{testQuestions, clausesQuestions, question10}
 use Rattle.core.specs.Promises.{clausesOutcome, ClausesPromise}
 use Rattle.core.specs.declared.ClausesAnswer.{ClausesAnswer}
 use Rattle.core.specs.declared.ClausesAnswer.the-variants as clauses
 use Rattle.core.proofs.Testing.{test-accepted}
-use Rattle.core.proofs.Outcomes.{answered-passed, outcome-answered, filled-answered}
+use Rattle.core.proofs.Outcomes.{emitted-refusal, emitted-passed, emitted-values, emitted-output}
 use Rattle.office.specs.Office.{office}
 use Rattle.clauses.specs.Printed.{refusal, clausesText, printed, Prints}
 use Rattle.clauses.proofs.Sizes.{variables-few, clauses-few}
 
 -- A text that fits stands at the beginning of the buffer.
 prints-text : (input text old new : List ℕ) (next : ℕ) → Wrote old 0 text new next → length text ≤ length old → text ≡ printed input → Prints input new next
-prints-text input text old new next W l e =
-    let whole = wrote-whole old text new next W l in
-    let m = W .moved in
-    let k : next ≡ length text = omega arith in
-    let size = ap length whole ∙ length-append text (drop (length text) old) in
-    record { inside = omega arith; text = ap (λ j. take j new) k ∙ (ap (take (length text)) whole ∙ (take-append-seam text (drop (length text) old) ∙ e)) }
+prints-text input text old new next W l e = let front = wrote-front old text new next W l in record { inside = front .0; text = front .1 ∙ e }
 
 module _ (s q : List ℕ) (old new : List ℤ) (r : ClausesAnswer) (E : ClausesPromise office s q old new r) where
   abbrev asked : ℕ
@@ -57,24 +53,19 @@ module _ (s q : List ℕ) (old new : List ℤ) (r : ClausesAnswer) (E : ClausesP
   abbrev values : List ℕ
   values = length output ∷ clauseNumbers s q
 
-  says : fromClauses r ≡ outcome asked values
-  unfolding ClausesPromise clausesOutcome
-  says = E .says
-
   -- The number of a refusal is that of the first question whose answer is no.
   refused-says : (n : ℕ) → r ≡ clauses.Refused n → (n ≡ asked) × (eqb asked 0 ≡ false)
-  unfolding outcome
-  refused-says n e =
-      let h = ap fromClauses (sym e) ∙ says in
-      by-bool (eqb asked 0) (λ t. let bad : refused n ≡ answered values = rw t at h in let z : _≡_ {A = ℕ} 0 1 = cc bad in absurd (omega arith))
-      (λ f. let same : refused n ≡ refused asked = rw f at h in (cc same, f))
+  unfolding ClausesPromise clausesOutcome
+  refused-says n e = emitted-refusal asked values output old new (fromClauses r) E n (ap fromClauses e)
 
   module _ (k v c : ℕ) (e : r ≡ clauses.Written k v c) where
     passed : asked ≡ 0
-    passed = answered-passed asked values (k ∷ v ∷ c ∷ []) (sym says ∙ ap fromClauses e)
+    unfolding ClausesPromise clausesOutcome
+    passed = emitted-passed asked values output old new (fromClauses r) E (k ∷ v ∷ c ∷ []) (ap fromClauses e)
 
     same : answered (k ∷ v ∷ c ∷ []) ≡ answered values
-    same = ap fromClauses (sym e) ∙ (says ∙ sym (outcome-answered asked values passed))
+    unfolding ClausesPromise clausesOutcome
+    same = emitted-values asked values output old new (fromClauses r) E (k ∷ v ∷ c ∷ []) (ap fromClauses e)
 
     long : k ≡ length output
     long = cc same
@@ -85,7 +76,7 @@ module _ (s q : List ℕ) (old new : List ℤ) (r : ClausesAnswer) (E : ClausesP
 
     whole : new ≡ output ++ drop (length output) old
     unfolding ClausesPromise clausesOutcome
-    whole = E .leaves ∙ sym (filled-answered (outcome asked values) output old values (outcome-answered asked values passed))
+    whole = emitted-output asked values output old new (fromClauses r) E (k ∷ v ∷ c ∷ []) (ap fromClauses e)
 
     pub written-inside : k ≤ length new
     written-inside = let l = long in let w = ap length whole ∙ length-append output (drop (length output) old) in omega arith

@@ -8,7 +8,8 @@ use lib.ListN.{length, take}
 use Rattle.unfolding.specs.Faithful.{clausesOf, variablesOf}
 use Rattle.sheet.specs.Sequence.{entries}
 use Rattle.sheet.specs.Sheet.{program}
-use Rattle.dimacs.specs.Text.{sheetOf, sequenceOf, dimacsText, refusedText}
+use Rattle.text.specs.Text.{refusedText}
+use Rattle.dimacs.specs.Text.{sheetOf, sequenceOf, dimacsText}
 use Rattle.core.specs.Questions.{clausesQuestions}
 use Rattle.office.specs.Office.{office}
 

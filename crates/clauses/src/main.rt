@@ -1,8 +1,8 @@
 // A sheet and a sequence on standard input; out come their clauses as DIMACS CNF text, or the refusal.
 use core::ClausesAnswer;
 use dimacs::put_dimacs;
-use dimacs::put_refused;
 use dimacs::sheet_end;
+use text::put_refused;
 ghost use Prim.Native.Nat.{_≤_};
 ghost use lib.ListN.{length, take};
 ghost use Rattle.dimacs.specs.Text.{sheetOf, sequenceOf};

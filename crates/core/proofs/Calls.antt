@@ -14,10 +14,10 @@ use Rattle.sheet.specs.Format.{atomsByte, recordsByte, complete, kindPasses, li
 use Rattle.sheet.specs.declared.Limits.{Limits}
 use Rattle.sheet.proofs.Records.{then-zero, then-refused}
 use Rattle.core.specs.Outcome.{Outcome, refused, answered, outcome, filled}
-use Rattle.core.specs.Outputs.{componentsOutput, defaultOutput, unfoldedOutput, clausesOutput}
+use Rattle.core.specs.Outputs.{componentsOutput, defaultOutput, lparseOutput, unfoldedOutput, clausesOutput}
 use Rattle.core.specs.Questions.{question1, question2, question3, question13, question7, question8, question9, readQuestions, testQuestions}
-use Rattle.core.specs.Questions.{bodyQuestions, componentsQuestions, defaultQuestions, unfoldedQuestions, clausesQuestions, countQuestions}
-use Rattle.core.specs.Promises.{readOutcome, ReadPromise, bodyOutcome, BodyPromise, componentsOutcome, ComponentsPromise, defaultOutcome, DefaultPromise}
+use Rattle.core.specs.Questions.{bodyQuestions, componentsQuestions, defaultQuestions, lparseQuestions, unfoldedQuestions, clausesQuestions, countQuestions}
+use Rattle.core.specs.Promises.{readOutcome, ReadPromise, bodyOutcome, BodyPromise, componentsOutcome, ComponentsPromise, defaultOutcome, DefaultPromise, lparseOutcome, LparsePromise}
 use Rattle.core.specs.Promises.{testOutcome, TestPromise, unfoldedOutcome, UnfoldedPromise, clausesOutcome, ClausesPromise, countOutcome, CountPromise}
 use Rattle.core.specs.Calls.{Call, Buffer, nothing, unsigned, signed, over, lent, values, written, Promised}
 use Rattle.core.specs.Calls.{recordsAsked, sheetAsked, questions, AllYes, FirstNo}
@@ -188,6 +188,13 @@ module _ (L : Limits) (s : List ℕ) (o : Outcome) (b : Buffer) where
         follows-filled L (call.default s old) o b (defaultQuestions L (length old) s) (one-first L s _)
         unsigned (defaultOutput s) old new refl refl e f n
 
+    pub lparse-follows : o ≡ lparseOutcome L (length old) s → new ≡ filled (lparseOutcome L (length old) s) (lparseOutput s) old
+        → Follows L (call.lparse s old) o b
+    unfolding questions values lent written lparseOutcome
+    lparse-follows e f =
+        follows-filled L (call.lparse s old) o b (lparseQuestions L (length old) s) (one-first L s _)
+        unsigned (lparseOutput s) old new refl refl e f n
+
     pub unfolded-follows : (q : List ℕ) → o ≡ unfoldedOutcome L (length old) s q → new ≡ filled (unfoldedOutcome L (length old) s q) (unfoldedOutput s q) old
         → Follows L (call.unfolded s q old) o b
     unfolding questions values lent written unfoldedOutcome
@@ -204,12 +211,13 @@ module _ (L : Limits) (s : List ℕ) (o : Outcome) (b : Buffer) where
 
 -- The promises of the operations.
 promised-follows : (L : Limits) (c : Call) (o : Outcome) (b : Buffer) → Promised L c o b → Follows L c o b
-unfolding Promised ReadPromise BodyPromise TestPromise CountPromise ComponentsPromise DefaultPromise UnfoldedPromise ClausesPromise
+unfolding Promised ReadPromise BodyPromise TestPromise CountPromise ComponentsPromise DefaultPromise LparsePromise UnfoldedPromise ClausesPromise
 promised-follows L (call.read s) o b (r, P, e, n) = read-follows L s o b n (e ∙ P)
 promised-follows L (call.count s) o b (r, P, e, n) = count-follows L s o b n (e ∙ P)
 promised-follows L (call.body i s) o b (r, P, e, n) = body-follows L s o b n i (e ∙ P)
 promised-follows L (call.components s old) o b (r, new, P, e, n) = components-follows L s o b old new n (e ∙ P .says) (P .leaves)
 promised-follows L (call.default s old) o b (r, new, P, e, n) = default-follows L s o b old new n (e ∙ P .says) (P .leaves)
+promised-follows L (call.lparse s old) o b (r, new, P, e, n) = lparse-follows L s o b old new n (e ∙ P .says) (P .leaves)
 promised-follows L (call.test s q) o b (r, P, e, n) = test-follows L s o b n q (e ∙ P)
 promised-follows L (call.unfolded s q old) o b (r, new, P, e, n) = unfolded-follows L s o b old new n q (e ∙ P .says) (P .leaves)
 promised-follows L (call.clauses s q old) o b (r, new, P, e, n) = clauses-follows L s o b q old new n (e ∙ P .says) (P .leaves)

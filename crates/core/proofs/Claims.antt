@@ -1,4 +1,4 @@
--- A sheet without choice rules is what it was, and what is written is no longer than it was.
+-- A sheet without choice rules is what it was, what is written is no longer than it was, and lparse text fits.
 use mathlib.Core.Bool.{_&&_, or-false}
 use mathlib.Core.List.{List, [], _∷_, map, Forall₂}
 use mathlib.Core.Path.{_≡_, refl, sym, _∙_, subst}
@@ -22,20 +22,22 @@ use Rattle.unfolding.proofs.Claims.{unfolded-is-shortened}
 use Rattle.sheet.specs.Questions.{ask}
 use Rattle.sheet.specs.Format.{atomsByte, recordsByte, limited}
 use Rattle.sheet.specs.Sequence.{entries}
-use Rattle.sheet.specs.Sheet.{Record, ruleIn, records, choices, program}
+use Rattle.sheet.specs.Sheet.{Record, ruleIn, records, choices, programOf, program}
 use Rattle.sheet.specs.declared.Limits.{Limits}
-use Rattle.sheet.proofs.Walk.{ask-passed}
+use Rattle.sheet.proofs.Walk.{ask-passed, records-sound, records-ordered, records-few}
 use Rattle.choice.specs.Claims.{plainProgram}
 use Rattle.choice.proofs.Expanded.{without-choices}
 use Rattle.choice.proofs.Unique.{faithful-is-old}
 use Rattle.counting.specs.DecisionAtoms.{asksFor, decisionAtoms}
+use Rattle.lparse_format.proofs.Longest.{text-short}
 use Rattle.core.specs.Outcome.{answered}
-use Rattle.core.specs.Outputs.{unfoldedOutput, clausesOutput, clauseNumbers}
+use Rattle.core.specs.Outputs.{lparseOutput, unfoldedOutput, clausesOutput, clauseNumbers}
 use Rattle.core.specs.Questions.{question3, question13}
 use Rattle.core.specs.Calls.{unsigned, signed, values, Service}
 use Rattle.core.specs.Calls as call
 use Rattle.core.specs.Demands.{Demand1}
-use Rattle.core.specs.Claims.{negatedAtoms, OldAnswersStay, OutputsShorten}
+use Rattle.core.specs.Claims.{negatedAtoms, OldAnswersStay, OutputsShorten, LparseFits}
+use Rattle.core.proofs.Chains.{read-passed}
 use Rattle.core.proofs.Demands.{succeeded, demand-2-of}
 
 -- What records ask for where none is a choice rule.
@@ -108,3 +110,9 @@ module _ (L : Limits) (S : Service) (D : Demand1 L S) (s q : List ℕ) where
 
 pub outputs-shorten : OutputsShorten
 outputs-shorten L S D = record { unfolds = λ s q. unfolded-shorter L S D s q; derives = λ s q. clauses-shorter L S D s q }
+
+pub lparse-fits : LparseFits
+unfolding lparseOutput program programOf
+lparse-fits L a r s z =
+    let P = read-passed L s z in
+    text-short (atomsByte s) (records s) (records-sound L s (P .form)) (records-ordered L s (P .form)) (omega (arith, P .atoms)) (omega (arith, records-few L s (P .form)))

@@ -1,4 +1,4 @@
--- Demands 2 and 3 of every service that meets demand 1.
+-- Demands 2 and 3, and what a solver reads, of every service that meets demand 1.
 use mathlib.Core.Bool.{true}
 use mathlib.Core.List.{List, [], _∷_, _++_}
 use mathlib.Core.Path.{_≡_, refl, sym, _∙_, ap, ap₂, subst}
@@ -30,13 +30,16 @@ use Rattle.sheet.proofs.Records.{then-zero, ask-yes}
 use Rattle.sheet.proofs.Walk.{then-passed, records-sound}
 use Rattle.choice.specs.Written.{WrittenFaithful}
 use Rattle.choice.proofs.Number.{cuts, cuts-listed, count-written}
+use Rattle.lparse_format.specs.Decoded.{readLparse}
+use Rattle.lparse_format.specs.Meaning.{SameModels}
+use Rattle.lparse_format.proofs.Claims.{lparse-is-read, export-is-faithful}
 use Rattle.core.specs.Outcome.{Outcome, refused, answered, code}
-use Rattle.core.specs.Outputs.{unfoldedOutput, clausesOutput, clauseNumbers}
+use Rattle.core.specs.Outputs.{lparseOutput, unfoldedOutput, clausesOutput, clauseNumbers}
 use Rattle.core.specs.Questions.{question8, question9, question10, readQuestions}
 use Rattle.core.specs.Calls.{Call, Buffer, unsigned, signed, over, sheetAsked, questions, AllYes, values, written, Service, Promised}
 use Rattle.core.specs.Calls as call
 use Rattle.core.specs.Demands.{Decided, refuses, answers, Demand1, AnswerSetsCounted, UnfoldedWords, ClauseWords, Demand2}
-use Rattle.core.specs.Demands.{Accepted, AsFarAsChains, Numbered, NineIsChains, Demand3}
+use Rattle.core.specs.Demands.{Accepted, AsFarAsChains, Numbered, NineIsChains, Demand3, SolverReads, TextForSolvers}
 use Rattle.core.proofs.Calls.{first, first-append, first-yes, yes-first, no-first, sheet-first, test-first, demand-1}
 use Rattle.core.proofs.Chains.{read-passed}
 use Rattle.core.proofs.Testing.{program-accepted, both-accepted, test-faithful}
@@ -164,6 +167,23 @@ module _ (L : Limits) (s q : List ℕ) (old new : List ℤ) (l v c : ℕ) (K : S
       subst (Numbered (readWords (take l new))) number
       (subst (λ cs. Numbered cs (variablesOf (program s) (entries q))) (sym clauses-back) (literals-are-numbered (program s) (entries q) clauses-accepted))
 
+-- The lparse text of a sheet that is not refused.
+pub solver-reads : (L : Limits) (s : List ℕ) → readQuestions L s ≡ 0 → SolverReads s (readLparse (lparseOutput s))
+unfolding lparseOutput program
+solver-reads L s z =
+    let back = lparse-is-read (atomsByte s) (records s) in
+    record {
+      exported = back;
+      models = subst (SameModels (atomsByte s) (program s)) (sym back) (export-is-faithful (atomsByte s) (records s) (records-sound L s (read-passed L s z .form)));
+    }
+
+-- Writing it.
+text-read : (L : Limits) (s old new : List ℕ) (l : ℕ) → Succeeded L (call.lparse s old) (l ∷ []) (unsigned new) → SolverReads s (readLparse (take l new))
+unfolding questions values written
+text-read L s old new l K =
+    let front = over-front (lparseOutput s) old new l (cc (K .same)) (cc (K .holds)) in
+    subst (λ t. SolverReads s (readLparse t)) (sym front) (solver-reads L s (read-accepted L s _ (K .yeses)))
+
 -- Over the written atoms.
 written-faithful : (L : Limits) (s q : List ℕ) → Accepted L s q → WrittenFaithful (atomsByte s) (program s) (entries q)
 written-faithful L s q y = test-faithful L s q (sym (test-first L s q) ∙ yes-first (questions L (call.test s q)) y)
@@ -221,9 +241,15 @@ module _ (L : Limits) (S : Service) (D : Demand1 L S) where
         derives = λ s q old far. nine-is-chains L s q _ (call.clauses s q old) refl (room-other (clausesOutput s q) (length old)) far S D;
       }
 
+  pub solvers-of : TextForSolvers S
+  solvers-of s old new l A = text-read L s old new l (succeeded _ _ _ A)
+
 -- The demands of the operations.
 pub demand-2 : (L : Limits) → Demand2 L (Promised L)
 demand-2 L = demand-2-of L (Promised L) (demand-1 L)
 
 pub demand-3 : (L : Limits) → Demand3 L (Promised L)
 demand-3 L = demand-3-of L (Promised L) (demand-1 L)
+
+pub text-for-solvers : (L : Limits) → TextForSolvers (Promised L)
+text-for-solvers L = solvers-of L (Promised L) (demand-1 L)

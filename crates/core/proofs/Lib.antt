@@ -2,6 +2,7 @@ pub mod Chains
 pub mod Outcomes
 pub mod Calls
 pub mod Asking
+pub mod Exporting
 pub mod Counting
 pub mod Default
 pub mod Reading

@@ -1,4 +1,5 @@
 -- Laws of outcomes, and of what a buffer holds afterwards.
+use mathlib.Core.Bool.{false}
 use mathlib.Core.List.{List, _++_}
 use mathlib.Core.Path.{_≡_, refl, sym, _∙_, ap}
 use Prim.Native.Nat.{ℕ}
@@ -18,18 +19,18 @@ unfolding outcome
 outcome-answered refusal values z = sym (rw (eq-eqb refusal 0 z) refl)
 
 -- Values are answered only where no question is answered by a no.
-pub answered-passed : (refusal : ℕ) (values vs : List ℕ) → outcome refusal values ≡ answered vs → refusal ≡ 0
+answered-passed : (refusal : ℕ) (values vs : List ℕ) → outcome refusal values ≡ answered vs → refusal ≡ 0
 unfolding outcome
 answered-passed refusal values vs e =
     by-bool (eqb refusal 0) (λ t. eqb-true refusal 0 t)
     (λ f. let bad : refused refusal ≡ answered vs = rw f at e in let z : _≡_ {A = ℕ} 0 1 = cc bad in absurd (omega arith))
 
 module _ {A : Type 0} (o : Outcome) (output old : List A) where
-  pub filled-refused : (refusal : ℕ) → refused refusal ≡ o → old ≡ filled o output old
+  filled-refused : (refusal : ℕ) → refused refusal ≡ o → old ≡ filled o output old
   unfolding filled
   filled-refused refusal e = ap (λ o. filled o output old) e
 
-  pub filled-answered : (values : List ℕ) → answered values ≡ o → output ++ drop (length output) old ≡ filled o output old
+  filled-answered : (values : List ℕ) → answered values ≡ o → output ++ drop (length output) old ≡ filled o output old
   unfolding filled
   filled-answered values e = ap (λ o. filled o output old) e
 
@@ -45,3 +46,22 @@ module _ {A : Type 0} (refusal : ℕ) (values : List ℕ) (output old : List A) 
   emits-answered new z e =
       let says = outcome-answered refusal values z in
       record { says = says; leaves = e ∙ filled-answered (outcome refusal values) output old values says }
+
+-- What such an answer says of the questions, and where it is a success of its values and the buffer.
+module _ {A : Type 0} (refusal : ℕ) (values : List ℕ) (output old new : List A) (r : Outcome) (E : Emits (outcome refusal values) output old new r) where
+  pub emitted-refusal : (n : ℕ) → r ≡ refused n → (n ≡ refusal) × (eqb refusal 0 ≡ false)
+  unfolding outcome
+  emitted-refusal n e =
+      let h = sym e ∙ E .says in
+      by-bool (eqb refusal 0) (λ t. let bad : refused n ≡ answered values = rw t at h in let z : _≡_ {A = ℕ} 0 1 = cc bad in absurd (omega arith))
+      (λ f. let same : refused n ≡ refused refusal = rw f at h in (cc same, f))
+
+  module _ (vs : List ℕ) (e : r ≡ answered vs) where
+    pub emitted-passed : refusal ≡ 0
+    emitted-passed = answered-passed refusal values vs (sym (E .says) ∙ e)
+
+    pub emitted-values : answered vs ≡ answered values
+    emitted-values = sym e ∙ (E .says ∙ sym (outcome-answered refusal values emitted-passed))
+
+    pub emitted-output : new ≡ output ++ drop (length output) old
+    emitted-output = E .leaves ∙ sym (filled-answered (outcome refusal values) output old values (outcome-answered refusal values emitted-passed))

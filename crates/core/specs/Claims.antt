@@ -1,4 +1,4 @@
--- What is proved of the questions and demands beside the demands themselves; `proofs/Claims.antt` has the proof.
+-- What is proved of questions, outputs and demands beside the demands themselves; `proofs/Claims.antt` has the proof.
 use mathlib.Core.List.{List, [], _∷_, Forall₂}
 use mathlib.Core.Logic.{_↔_}
 use mathlib.Core.Path.{_≡_}
@@ -20,7 +20,8 @@ use Rattle.choice.specs.Written.{WrittenFaithful}
 use Rattle.choice.specs.Claims.{plainProgram}
 use Rattle.counting.specs.DecisionAtoms.{decisionAtoms}
 use Rattle.core.specs.Outcome.{answered}
-use Rattle.core.specs.Questions.{question3, question13}
+use Rattle.core.specs.Outputs.{lparseOutput}
+use Rattle.core.specs.Questions.{question3, question13, readQuestions}
 use Rattle.core.specs.Calls.{unsigned, signed, Service}
 use Rattle.core.specs.Calls as call
 use Rattle.core.specs.Demands.{Demand1}
@@ -58,3 +59,7 @@ pub record Shorter (S : Service) : Type 0 where
 -- So it is of every service that meets demand 1.
 abbrev pub OutputsShorten : Type 1
 OutputsShorten = (L : Limits) (S : Service) → Demand1 L S → Shorter S
+
+-- No lparse text of a sheet that is not refused is longer than 49,088 bytes, where no more than 64 atoms and 128 records are allowed.
+abbrev pub LparseFits : Type 0
+LparseFits = (L : Limits) → L .atoms ≤ 64 → L .records ≤ 128 → (s : List ℕ) → readQuestions L s ≡ 0 → length (lparseOutput s) ≤ 49088

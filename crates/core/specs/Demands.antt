@@ -1,4 +1,4 @@
--- The three demands of a service with these limits, over the answers that it allows to a call.
+-- The three demands of a service with these limits, and what a solver reads of its lparse text, over the answers that it allows to a call.
 use mathlib.Core.List.{List, [], _∷_, List·Memᴰ, _++_}
 use mathlib.Core.Logic.{_↔_}
 use mathlib.Core.Path.{_≡_}
@@ -15,9 +15,12 @@ use Rattle.unfolding.specs.Clauses.{Literal, Clause, variableOf, readWords}
 use Rattle.unfolding.specs.Faithful.{clausesOf, variablesOf}
 use Rattle.sheet.specs.Format.{atomsByte}
 use Rattle.sheet.specs.Sequence.{entries}
-use Rattle.sheet.specs.Sheet.{program}
+use Rattle.sheet.specs.Sheet.{records, program}
 use Rattle.sheet.specs.declared.Limits.{Limits}
 use Rattle.choice.specs.Written.{ProjectedAnswerSet, WrittenFaithful}
+use Rattle.lparse_format.specs.Program.{LparseProgram, lparseProgram}
+use Rattle.lparse_format.specs.Decoded.{readLparse}
+use Rattle.lparse_format.specs.Meaning.{SameModels}
 use Rattle.core.specs.Outcome.{Outcome, refused, answered, code}
 use Rattle.core.specs.Outputs.{defaultOutput}
 use Rattle.core.specs.Questions.{question8}
@@ -95,6 +98,16 @@ pub record Demand3 (L : Limits) (S : Service) : Type 0 where
   pub tested : (s q : List ℕ) → AsFarAsChains L s q → NineIsChains S (call.test s q) s q
   pub unfolds : (s q old : List ℕ) → AsFarAsChains L s q → NineIsChains S (call.unfolded s q old) s q
   pub derives : (s q : List ℕ) (old : List ℤ) → AsFarAsChains L s q → NineIsChains S (call.clauses s q old) s q
+
+-- What a solver reads of a sheet: the rules, the symbol table, B+ and B- of document 02, W3; and by the published meaning of the format their stable
+-- models are those of the sheet, over the written atoms, each once.
+pub record SolverReads (s : List ℕ) (E : LparseProgram) : Type 0 where
+  pub exported : E ≡ lparseProgram (atomsByte s) (records s)
+  pub models : SameModels (atomsByte s) (program s) E
+
+-- The text that a call answers as written, its l bytes, read back, is such a program.
+abbrev pub TextForSolvers : Service → Type 0
+TextForSolvers S = (s old new : List ℕ) (l : ℕ) → S (call.lparse s old) (answered (l ∷ [])) (unsigned new) → SolverReads s (readLparse (take l new))
 
 -- Questions 8 and 9 never stop the default sequence.
 abbrev pub DefaultAccepted : Limits → Type 0

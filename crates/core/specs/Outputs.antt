@@ -10,9 +10,11 @@ use Rattle.unfolding.specs.Default.{defaultSequence}
 use Rattle.unfolding.specs.Unfolded.{words, unfolded}
 use Rattle.unfolding.specs.Clauses.{signedWords}
 use Rattle.unfolding.specs.Faithful.{clausesOf, variablesOf}
-use Rattle.sheet.specs.Format.{positives, end, part}
+use Rattle.sheet.specs.Format.{atomsByte, positives, end, part}
 use Rattle.sheet.specs.Sequence.{entries}
-use Rattle.sheet.specs.Sheet.{program}
+use Rattle.sheet.specs.Sheet.{records, program}
+use Rattle.lparse_format.specs.Program.{lparseProgram}
+use Rattle.lparse_format.specs.Text.{lparseText}
 use Rattle.core.specs.Outcome.{code}
 
 -- Components: for each atom, written or fresh, the smallest atom of its component.
@@ -30,6 +32,10 @@ sequenceBytes l = sequenceHeader (length l) ++ l
 -- The default sequence.
 unfoldable pub defaultOutput : List ℕ → List ℕ
 defaultOutput s = sequenceBytes (defaultSequence (program s))
+
+-- The lparse text of a sheet: its records and its written atoms, no fresh ones. Each list of atoms rises, by question 6.
+unfoldable pub lparseOutput : List ℕ → List ℕ
+lparseOutput s = lparseText (lparseProgram (atomsByte s) (records s))
 
 -- The unfolded program of a sheet and a sequence.
 unfoldable pub unfoldedOutput : List ℕ → List ℕ → List ℕ

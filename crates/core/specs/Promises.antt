@@ -9,9 +9,9 @@ use lib.ListN.{length}
 use Rattle.sheet.specs.Format.{atomsByte, recordsByte}
 use Rattle.sheet.specs.declared.Limits.{Limits}
 use Rattle.core.specs.Outcome.{Outcome, outcome, fromRead, fromBody, fromWrite, fromTest, fromClauses, fromCount, Emits}
-use Rattle.core.specs.Outputs.{componentsOutput, defaultOutput, unfoldedOutput, clausesOutput, clauseNumbers, countValues}
+use Rattle.core.specs.Outputs.{componentsOutput, defaultOutput, lparseOutput, unfoldedOutput, clausesOutput, clauseNumbers, countValues}
 use Rattle.core.specs.Outputs.{bodyStart, bodyEnd, bodyPositives, slice}
-use Rattle.core.specs.Questions.{readQuestions, bodyQuestions, componentsQuestions, defaultQuestions}
+use Rattle.core.specs.Questions.{readQuestions, bodyQuestions, componentsQuestions, defaultQuestions, lparseQuestions}
 use Rattle.core.specs.Questions.{testQuestions, unfoldedQuestions, clausesQuestions, countQuestions}
 use Rattle.core.specs.declared.ReadAnswer.{ReadAnswer}
 use Rattle.core.specs.declared.BodyAnswer.{BodyAnswer}
@@ -79,6 +79,14 @@ defaultOutcome L room s = outcome (defaultQuestions L room s) (length (defaultOu
 -- Its answer is its outcome, and the buffer is filled by it.
 unfoldable pub DefaultPromise : Limits → List ℕ → List ℕ → List ℕ → WriteAnswer → Type 0
 DefaultPromise L s old new r = Emits (defaultOutcome L (length old) s) (defaultOutput s) old new (fromWrite r)
+
+-- Writing lparse text: the length of the output.
+unfoldable pub lparseOutcome : Limits → ℕ → List ℕ → Outcome
+lparseOutcome L room s = outcome (lparseQuestions L room s) (length (lparseOutput s) ∷ [])
+
+-- Its answer is its outcome, and the buffer is filled by it.
+unfoldable pub LparsePromise : Limits → List ℕ → List ℕ → List ℕ → WriteAnswer → Type 0
+LparsePromise L s old new r = Emits (lparseOutcome L (length old) s) (lparseOutput s) old new (fromWrite r)
 
 -- Testing a sequence: only that it passed.
 unfoldable pub testOutcome : Limits → List ℕ → List ℕ → Outcome

@@ -12,7 +12,7 @@ use Rattle.sheet.specs.Sheet.{records, choices, program}
 use Rattle.sheet.specs.declared.Limits.{Limits}
 use Rattle.components.specs.Limit.{componentsFit}
 use Rattle.counting.specs.DecisionAtoms.{decisionAtoms}
-use Rattle.core.specs.Outputs.{componentsOutput, defaultOutput, unfoldedOutput, clausesOutput}
+use Rattle.core.specs.Outputs.{componentsOutput, defaultOutput, lparseOutput, unfoldedOutput, clausesOutput}
 
 -- 1: at least 5 bytes, the first being 1.
 abbrev pub question1 : List ℕ → ℕ
@@ -80,6 +80,10 @@ componentsQuestions L room s = readQuestions L s then question10 (componentsOutp
 -- The default sequence.
 abbrev pub defaultQuestions : Limits → ℕ → List ℕ → ℕ
 defaultQuestions L room s = readQuestions L s then question10 (defaultOutput s) room
+
+-- Writing lparse text.
+abbrev pub lparseQuestions : Limits → ℕ → List ℕ → ℕ
+lparseQuestions L room s = readQuestions L s then question10 (lparseOutput s) room
 
 -- Writing the unfolded program.
 abbrev pub unfoldedQuestions : Limits → ℕ → List ℕ → List ℕ → ℕ

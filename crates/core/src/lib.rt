@@ -6,6 +6,8 @@ use clause_output::put_clauses;
 use components::Components;
 use components::components_of;
 use components::fits;
+use lparse_output::lparse_length;
+use lparse_output::put_lparse;
 use reader::read_header;
 use reader::read_records;
 use sheet::Limits;
@@ -33,7 +35,7 @@ ghost use Rattle.writer.specs.inner.Wrote.{Wrote};
 ghost use Rattle.core.specs.Outcome.{fromVerdict};
 ghost use Rattle.core.specs.Outputs.{sequenceHeader};
 ghost use Rattle.core.specs.Promises.{ReadPromise, BodyPromise, SlicePromise, nowhere, FindPromise};
-ghost use Rattle.core.specs.Promises.{ComponentsPromise, DefaultPromise, TestPromise, UnfoldedPromise, ClausesPromise, CountPromise};
+ghost use Rattle.core.specs.Promises.{ComponentsPromise, DefaultPromise, LparsePromise, TestPromise, UnfoldedPromise, ClausesPromise, CountPromise};
 ghost use Rattle.core.specs.inner.Places.{Placed};
 ghost use Rattle.core.specs.inner.Asked.{Supported, SheetAsked, RecordsAsked, SequenceAsked, BothKept};
 
@@ -353,6 +355,29 @@ pub fn default_sequence(limits: Limits, s: &[u8], out: &mut [u8]) -> WriteAnswer
     }
     let at = put_header(out, t);
     let length = put_blocks(out, at, &a.components.sets, n);
+    WriteAnswer::Length(length)
+}
+
+// Writing lparse text.
+pub fn lparse(limits: Limits, s: &[u8], out: &mut [u8]) -> WriteAnswer
+    requires { ⌜ Supported limits ⌝ }
+    ensures { λ r. ⌜ LparsePromise limits (now (s .entry)) (now (out .entry)) (now (out .exit)) r ⌝ }
+{
+    let mut kinds = [0u8; 128];
+    let mut heads = [0u8; 128];
+    let mut pos = [0u64; 128];
+    let mut neg = [0u64; 128];
+    let a = ask_records(limits, s, &mut kinds, &mut heads, &mut pos, &mut neg);
+    let refusal = a.refusal;
+    if refusal != 0 {
+        return WriteAnswer::Refused(refusal);
+    }
+    let n = a.written;
+    let m = a.records;
+    if out.len() < lparse_length(n, m, &kinds, &heads, &pos, &neg) {
+        return WriteAnswer::Refused(10);
+    }
+    let length = put_lparse(out, n, m, &kinds, &heads, &pos, &neg);
     WriteAnswer::Length(length)
 }
 

@@ -10,9 +10,10 @@ use lib.ListN.{length, length-append}
 use Rattle.lists.proofs.Members.{flatMap-cong, flatMap-out}
 use Rattle.unfolding.specs.Clauses.{Literal, positive, negative, variableOf, Clause, signed, clauseWords, signedWords}
 use Rattle.writer.proofs.Loops.{flatMap-map}
-use Rattle.dimacs.specs.Text.{ascii, digits, decimal, literalText, clauseText}
+use Rattle.text.specs.Text.{ascii, digits, decimal}
+use Rattle.dimacs.specs.Text.{literalText, clauseText}
 use Rattle.dimacs.specs.inner.Words.{signText, endText, wordText, wordsText}
-use Rattle.dimacs.proofs.Digits.{decimal-short}
+use Rattle.text.proofs.Digits.{decimal-short}
 use Rattle.dimacs.proofs.Words.{word-length}
 
 words-append : (xs ys : List ℤ) → wordsText (xs ++ ys) ≡ wordsText xs ++ wordsText ys

@@ -2,15 +2,15 @@
 use mathlib.Core.Bool.{Bool, true, false, cond}
 use mathlib.Core.List.{List, [], _∷_, _++_, flatMap, append-assoc}
 use mathlib.Core.Path.{_≡_, refl, sym, _∙_, ap}
-use Prim.Native.Nat.{ℕ, zero, suc, _+_, _-_, _*_, _/_, _%_, _<_}
+use Prim.Native.Nat.{ℕ, zero, suc, _+_, _-_, _*_, _<_}
 use native.Mathlib.Omega.{arith}
-use borrow.Author.Tests.{ltb-true, ltb-false, ne-eqb, le-leb}
-use lib.Dec.{ltb}
+use borrow.Author.Tests.{ne-eqb, le-leb}
 use lib.IntN.{ℤ, pos, negsuc, negℤ}
 use lib.ListN.{length, drop}
-use Rattle.lists.proofs.Bools.{by-bool}
 use Rattle.unfolding.specs.Clauses.{signedWords}
-use Rattle.dimacs.specs.Text.{ascii, digit, digits, decimal, headerText, dimacsText}
+use Rattle.text.specs.Text.{ascii, digit, decimal}
+use Rattle.text.proofs.Digits.{read-decimal}
+use Rattle.dimacs.specs.Text.{headerText, dimacsText}
 use Rattle.dimacs.specs.Decoded.{numbers, readDimacs, TextIsRead}
 use Rattle.dimacs.specs.inner.Words.{signText, endText, wordText, wordsText}
 use Rattle.dimacs.proofs.Clauses.{clauses-text}
@@ -21,19 +21,8 @@ unfolding numbers
 read-digit minus n d bs l =
     rw (ne-eqb (digit d) 45 (λ e. omega arith), le-leb 48 (digit d) (omega arith)) (ap (λ k. numbers minus (n * 10 + k) bs) (let e : digit d - 48 ≡ d = omega arith in e))
 
-read-digits : (minus : Bool) (k n : ℕ) (bs : List ℕ) → n < k → numbers minus 0 (digits k n ++ bs) ≡ numbers minus n bs
-unfolding digits
-read-digits minus zero n bs h = absurd (omega arith)
-read-digits minus (suc k) n bs h =
-    by-bool (ltb n 10) (λ t. rw t (read-digit minus 0 n bs (ltb-true n 10 t) ∙ ap (λ j. numbers minus j bs) (let e : 0 * 10 + n ≡ n = omega arith in e)))
-    (λ f. let l = ltb-false n 10 f in
-    rw f (ap (numbers minus 0) (append-assoc (digits k (n / 10)) (digit (n % 10) ∷ []) bs)
-    ∙ (read-digits minus k (n / 10) (digit (n % 10) ∷ bs) (omega arith)
-    ∙ (read-digit minus (n / 10) (n % 10) bs (omega arith) ∙ ap (λ j. numbers minus j bs) (let e : n / 10 * 10 + n % 10 ≡ n = omega arith in e)))))
-
-read-decimal : (minus : Bool) (n : ℕ) (bs : List ℕ) → numbers minus 0 (decimal n ++ bs) ≡ numbers minus n bs
-unfolding decimal
-read-decimal minus n bs = read-digits minus (suc n) n bs (omega arith)
+read-number : (minus : Bool) (n : ℕ) (bs : List ℕ) → numbers minus 0 (decimal n ++ bs) ≡ numbers minus n bs
+read-number minus = read-decimal (numbers minus) (read-digit minus)
 
 -- The end of a word ends its number.
 read-end : (minus : Bool) (n v : ℕ) (bs : List ℕ) → numbers minus n (endText v ++ bs) ≡ cond minus (negℤ (pos n)) (pos n) ∷ numbers false 0 bs
@@ -42,7 +31,7 @@ read-end minus n zero bs = refl
 read-end minus n (suc v) bs = refl
 
 read-magnitude : (minus : Bool) (v : ℕ) (bs : List ℕ) → numbers minus 0 (decimal v ++ endText v ++ bs) ≡ cond minus (negℤ (pos v)) (pos v) ∷ numbers false 0 bs
-read-magnitude minus v bs = ap (numbers minus 0) (append-assoc (decimal v) (endText v) bs) ∙ (read-decimal minus v (endText v ++ bs) ∙ read-end minus v v bs)
+read-magnitude minus v bs = ap (numbers minus 0) (append-assoc (decimal v) (endText v) bs) ∙ (read-number minus v (endText v ++ bs) ∙ read-end minus v v bs)
 
 read-word : (w : ℤ) (bs : List ℕ) → numbers false 0 (wordText w ++ bs) ≡ w ∷ numbers false 0 bs
 unfolding numbers wordText signText
@@ -58,8 +47,8 @@ read-lines : (v n : ℕ) (bs : List ℕ) → readDimacs (headerText v n ++ bs) �
 unfolding readDimacs headerText numbers
 read-lines v n bs =
     ap (λ t. numbers false 0 (drop 6 t)) regroup
-    ∙ (read-decimal false v (ascii " " ++ (decimal n ++ (ascii "\n" ++ bs)))
-    ∙ (space ∙ ap (λ zs. pos v ∷ zs) (read-decimal false n (ascii "\n" ++ bs) ∙ line)))
+    ∙ (read-number false v (ascii " " ++ (decimal n ++ (ascii "\n" ++ bs)))
+    ∙ (space ∙ ap (λ zs. pos v ∷ zs) (read-number false n (ascii "\n" ++ bs) ∙ line)))
   where
     regroup : ascii "p cnf " ++ decimal v ++ ascii " " ++ decimal n ++ ascii "\n" ++ bs ≡ ascii "p cnf " ++ (decimal v ++ (ascii " " ++ (decimal n ++ (ascii "\n" ++ bs))))
     regroup = simp append-assoc

@@ -1,22 +1,15 @@
--- The first line, the line of a refusal, and a whole text.
+-- The first line.
 use mathlib.Core.List.{List, _++_}
-use Prim.Native.Nat.{ℕ, _+_, _≤_}
+use Prim.Native.Nat.{ℕ, _≤_}
 use native.Mathlib.Omega.{arith}
 use lib.ListN.{length, length-append}
 use mir.Syntax.{w64}
 use mir.Val.{Fits}
 use Rattle.writer.specs.inner.Wrote.{Wrote}
 use Rattle.writer.proofs.Writing.{wrote-append}
-use Rattle.dimacs.specs.Text.{ascii, decimal, headerText, refusedText}
-use Rattle.dimacs.proofs.Digits.{decimal-wide}
-
-module _ (old one two new : List ℕ) (a b next : ℕ) where
-  pub wrote-refused : (refusal : ℕ) → Wrote old 0 (ascii "refused ") one a → Wrote one a (decimal refusal) two b → Wrote two b (ascii "\n") new next
-      → Wrote old 0 (refusedText refusal) new next
-  unfolding refusedText
-  wrote-refused refusal R D E =
-      wrote-append old two new (ascii "refused " ++ decimal refusal) (ascii "\n") 0 b next
-      (wrote-append old one two (ascii "refused ") (decimal refusal) 0 a b R D) E
+use Rattle.text.specs.Text.{ascii, decimal}
+use Rattle.text.proofs.Digits.{decimal-wide}
+use Rattle.dimacs.specs.Text.{headerText}
 
 module _ (old one two three four new : List ℕ) (a b c d next v n : ℕ) where
   pub wrote-header : Wrote old 0 (ascii "p cnf ") one a → Wrote one a (decimal v) two b → Wrote two b (ascii " ") three c → Wrote three c (decimal n) four d
@@ -27,16 +20,8 @@ module _ (old one two three four new : List ℕ) (a b c d next v n : ℕ) where
       (wrote-append old three four (ascii "p cnf " ++ decimal v ++ ascii " ") (decimal n) 0 c d
       (wrote-append old two three (ascii "p cnf " ++ decimal v) (ascii " ") 0 b c (wrote-append old one two (ascii "p cnf ") (decimal v) 0 a b P D) S) N) E
 
--- How long these lines are.
+-- How long it is.
 module _ (v : ℕ) (f : Fits w64 v) where
-  pub refused-short : length (refusedText v) ≤ 29
-  unfolding refusedText
-  refused-short =
-      let x = length-append (ascii "refused " ++ decimal v) (ascii "\n") in
-      let y = length-append (ascii "refused ") (decimal v) in
-      let z = decimal-wide v f in
-      omega arith
-
   pub header-short : (n : ℕ) → Fits w64 n → length (headerText v n) ≤ 48
   unfolding headerText
   header-short n g =

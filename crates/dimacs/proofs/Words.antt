@@ -2,7 +2,7 @@
 use mathlib.Core.Bool.{true, false}
 use mathlib.Core.List.{List, [], _∷_, _++_, flatMap}
 use mathlib.Core.Path.{_≡_, refl, sym, _∙_, ap, subst}
-use Prim.Native.Nat.{ℕ, zero, suc, _+_, _-_, _≤_, _<_}
+use Prim.Native.Nat.{ℕ, zero, suc, _+_, _≤_, _<_}
 use native.Mathlib.Nat.{add-zero}
 use native.Mathlib.Omega.{arith}
 use borrow.Author.Tests.{ltb-true}
@@ -15,9 +15,9 @@ use mir.ValLaws.{toZ-ofZ}
 use Rattle.lists.proofs.Bools.{true-false}
 use Rattle.writer.specs.inner.Wrote.{Wrote}
 use Rattle.writer.proofs.Writing.{wrote-append, wrote-length}
-use Rattle.dimacs.specs.Text.{decimal}
+use Rattle.text.specs.Text.{decimal}
 use Rattle.dimacs.specs.inner.Words.{signText, endText, wordText, wordsText}
-use Rattle.dimacs.proofs.Loops.{left-cons, text-end}
+use Rattle.text.proofs.Loops.{left-cons, text-end}
 
 -- There is room for a sign where it is due.
 module _ (at size : ℕ) where

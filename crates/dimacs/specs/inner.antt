@@ -1,4 +1,3 @@
 -- What inner functions promise: no public promise rests on it.
-pub mod Digits
 pub mod Split
 pub mod Words

@@ -1,5 +1,7 @@
 // The clause program's input and text: where the sheet ends, and DIMACS CNF.
 use bits::byte_at;
+use text::put_decimal;
+use text::put_text;
 use writer::put;
 ghost use mathlib.Core.List.{_++_};
 ghost use mathlib.Core.Path.{_≡_};
@@ -7,8 +9,7 @@ ghost use Prim.Native.Nat.{_+_, _≤_};
 ghost use lib.IntN.{natAbs};
 ghost use lib.ListN.{length};
 ghost use Rattle.writer.specs.inner.Wrote.{Wrote};
-ghost use Rattle.dimacs.specs.Text.{decimal, headerText, refusedText};
-ghost use Rattle.dimacs.specs.inner.Digits.{digitAt, upperDigits};
+ghost use Rattle.dimacs.specs.Text.{headerText};
 ghost use Rattle.dimacs.specs.inner.Split.{SheetEnd};
 ghost use Rattle.dimacs.specs.inner.Words.{signText, endText, wordText, wordsText};
 
@@ -24,54 +25,6 @@ pub fn sheet_end(input: &[u8]) -> usize
         return input.len();
     }
     e
-}
-
-// The digit of n at a unit, unless it is a zero in front of all others.
-fn put_digit(out: &mut [u8], at: usize, n: usize, unit: usize) -> usize
-    requires { ⌜ (at + length (digitAt unit n) ≤ length (now out)) × (1 ≤ unit) ⌝ }
-    ensures { λ r. ⌜ Wrote (now (out .entry)) at (digitAt unit n) (now (out .exit)) r ⌝ }
-{
-    if n < unit {
-        return at;
-    }
-    put(out, at, (48 + n / unit % 10) as u8)
-}
-
-// The digits of n above its last four.
-fn put_upper(out: &mut [u8], at: usize, n: usize) -> usize
-    requires { ⌜ at + length (upperDigits 10000 n) ≤ length (now out) ⌝ }
-    ensures { λ r. ⌜ Wrote (now (out .entry)) at (upperDigits 10000 n) (now (out .exit)) r ⌝ }
-{
-    if n < 10000 {
-        return at;
-    }
-    put_decimal(out, at, n / 10000)
-}
-
-// A number in decimal.
-fn put_decimal(out: &mut [u8], at: usize, n: usize) -> usize
-    requires { ⌜ at + length (decimal n) ≤ length (now out) ⌝ }
-    ensures { λ r. ⌜ Wrote (now (out .entry)) at (decimal n) (now (out .exit)) r ⌝ }
-{
-    let a = put_upper(out, at, n);
-    let b = put_digit(out, a, n, 1000);
-    let c = put_digit(out, b, n, 100);
-    let d = put_digit(out, c, n, 10);
-    put(out, d, (48 + n % 10) as u8)
-}
-
-// A text.
-fn put_text(out: &mut [u8], at: usize, text: &[u8]) -> usize
-    requires { ⌜ at + length (now text) ≤ length (now out) ⌝ }
-    ensures { λ r. ⌜ Wrote (now (out .entry)) at (now (text .entry)) (now (out .exit)) r ⌝ }
-{
-    let mut next = at;
-    let mut i = 0;
-    while i < text.len() {
-        next = put(out, next, text[i]);
-        i += 1;
-    }
-    next
 }
 
 // A word without its sign.
@@ -142,16 +95,6 @@ fn put_header(out: &mut [u8], variables: usize, clauses: usize) -> usize
     let c = put_text(out, b, b" ");
     let d = put_decimal(out, c, clauses);
     put_text(out, d, b"\n")
-}
-
-// A refusal.
-pub fn put_refused(out: &mut [u8], refusal: usize) -> usize
-    requires { ⌜ 29 ≤ length (now out) ⌝ }
-    ensures { λ r. ⌜ Wrote (now (out .entry)) 0 (refusedText refusal) (now (out .exit)) r ⌝ }
-{
-    let a = put_text(out, 0, b"refused ");
-    let b = put_decimal(out, a, refusal);
-    put_text(out, b, b"\n")
 }
 
 // DIMACS CNF of the words of clauses.

@@ -149,6 +149,11 @@ module _ {A B : Type 0} where
   flatMap-append f [] m = refl
   flatMap-append f (x ∷ l) m = ap (λ k. f x ++ k) (flatMap-append f l m) ∙ sym (append-assoc (f x) (flatMap f l) (flatMap f m))
 
+  pub any-flatMap : (p : B → Bool) (f : A → List B) (l : List A) → any p (flatMap f l) ≡ any (λ x. any p (f x)) l
+  unfolding any flatMap
+  any-flatMap p f [] = refl
+  any-flatMap p f (x ∷ l) = any-append p (f x) (flatMap f l) ∙ ap (λ y. any p (f x) || y) (any-flatMap p f l)
+
   pub flatMap-in : (f : A → List B) (l : List A) (x : A) (y : B) → List·Memᴰ x l → List·Memᴰ y (f x) → List·Memᴰ y (flatMap f l)
   unfolding flatMap
   flatMap-in f [] x y m n = absurd (List·Memᴰ·not-nil m)

@@ -7,7 +7,7 @@ use Prim.Native.Nat.{ℕ, zero, suc, _≤_}
 use native.Mathlib.Nat.{not-suc-le-zero, le-of-suc-le-suc}
 use native.Mathlib.Omega.{arith}
 use lib.ListN.{length, length-append}
-use Rattle.lists.specs.Lists.{filter, times}
+use Rattle.lists.specs.Lists.{filter, times, range}
 use Rattle.lists.proofs.Bools.{by-bool}
 
 module _ {A : Type 0} where
@@ -87,3 +87,10 @@ module _ {A B : Type 0} where
       let g = length-append (f y) (flatMap f m) in
       let k = ap (λ z. length (f z)) q in
       omega arith
+
+-- A shorter range from the same number on.
+pub sublist-range : (a n m : ℕ) → n ≤ m → Sublistᴰ (range a n) (range a m)
+unfolding range
+sublist-range a zero m l = Sublistᴰ·nil-sublist (range a m)
+sublist-range a (suc n) zero l = absurd (not-suc-le-zero l)
+sublist-range a (suc n) (suc m) l = Sublistᴰ·cons-cons refl (sublist-range (suc a) n m (le-of-suc-le-suc l))

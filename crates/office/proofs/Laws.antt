@@ -1,15 +1,20 @@
 -- The office's limits suit the operations.
+use mathlib.Core.List.{List}
 use mathlib.Core.Path.{_≡_}
+use Prim.Native.Nat.{ℕ, _≤_}
 use lib.Dec.{lit<, lit≤}
+use lib.ListN.{length}
 use Rattle.sheet.specs.declared.Limits.{Limits}
 use Rattle.core.specs.inner.Asked.{Supported}
+use Rattle.core.specs.Outputs.{lparseOutput}
+use Rattle.core.specs.Questions.{readQuestions}
 use Rattle.core.specs.Calls.{Promised}
-use Rattle.core.specs.Demands.{Demand1, Demand2, Demand3, DefaultAccepted}
+use Rattle.core.specs.Demands.{Demand1, Demand2, Demand3, TextForSolvers, DefaultAccepted}
 use Rattle.core.specs.Claims.{Shorter}
 use Rattle.core.proofs.Calls.{demand-1}
 use Rattle.core.proofs.Default.{default-accepted}
-use Rattle.core.proofs.Demands.{demand-2, demand-3}
-use Rattle.core.proofs.Claims.{outputs-shorten}
+use Rattle.core.proofs.Demands.{demand-2, demand-3, text-for-solvers}
+use Rattle.core.proofs.Claims.{outputs-shorten, lparse-fits}
 use Rattle.office.specs.Office.{office}
 
 pub supported : (L : Limits) → L ≡ office → Supported L
@@ -29,6 +34,14 @@ office-demand-2 = demand-2 office
 pub office-demand-3 : Demand3 office (Promised office)
 office-demand-3 = demand-3 office
 
+-- What a solver reads of the office's text.
+pub office-text-for-solvers : TextForSolvers (Promised office)
+office-text-for-solvers = text-for-solvers office
+
 -- What the office writes is shortened.
 pub office-shorter : Shorter (Promised office)
 office-shorter = outputs-shorten office (Promised office) office-demand-1
+
+-- No lparse text of the office is longer than this.
+pub office-lparse-fits : (s : List ℕ) → readQuestions office s ≡ 0 → length (lparseOutput s) ≤ 49088
+office-lparse-fits = lparse-fits office (lit≤ tt) (lit≤ tt)

@@ -1,5 +1,5 @@
--- The starred probes of document 01 ("Probes at the limits") and one of copies that can never come on: a table of what is asked and what
--- is expected, and that the two agree.
+-- The starred probes of document 01 ("Probes at the limits"), one of copies that can never come on, and two of lparse text: a table of what is
+-- asked and what is expected, and that the two agree.
 use mathlib.Core.Bool.{not}
 use mathlib.Core.List.{List, [], _∷_, map}
 use mathlib.Core.Path.{_≡_}
@@ -12,8 +12,9 @@ use Rattle.sheet.specs.Format.{atomsByte}
 use Rattle.sheet.specs.Sequence.{entries}
 use Rattle.sheet.specs.Sheet.{program}
 use Rattle.core.specs.Outcome.{Outcome, refused, answered}
-use Rattle.core.specs.Outputs.{defaultOutput, clausesOutput}
-use Rattle.core.specs.Promises.{defaultOutcome, testOutcome, clausesOutcome, countOutcome}
+use Rattle.text.specs.Text.{ascii}
+use Rattle.core.specs.Outputs.{defaultOutput, lparseOutput, clausesOutput}
+use Rattle.core.specs.Promises.{defaultOutcome, lparseOutcome, testOutcome, clausesOutcome, countOutcome}
 use Rattle.office.specs.Office.{office}
 
 -- No atom and no rule.
@@ -59,7 +60,7 @@ loopEntries = 1 ∷ 0 ∷ 3 ∷ 0 ∷ 1 ∷ 0 ∷ []
 -- What can be asked of a sheet, or of a sheet and a sequence. Where something is written, the room comes first.
 pub data Query : Type 0 where
   count models : List ℕ → Query
-  default : ℕ → List ℕ → Query
+  default lparse : ℕ → List ℕ → Query
   test missing : List ℕ → List ℕ → Query
   clauses : ℕ → List ℕ → List ℕ → Query
 
@@ -76,6 +77,7 @@ answer (count s) = outcome (countOutcome office s)
 -- The stable models, each as the list of its atoms.
 answer (models s) = atoms (map (λ X. filter X (range 0 (atomsByte s))) (stableModels (program s)))
 answer (default room s) = bytes (defaultOutcome office room s) (defaultOutput s)
+answer (lparse room s) = bytes (lparseOutcome office room s) (lparseOutput s)
 answer (test s q) = outcome (testOutcome office s q)
 -- The chains that are not found in the sequence.
 answer (missing s q) = atoms (filter (λ w. not (found w (entries q))) (chains (program s)))
@@ -99,6 +101,8 @@ table =
     ∷ (test sheetA fourEntries, outcome (answered []))
     -- The first copy of 0 has no rule, for 1 has no copy yet; so the copy of 1 has none, and the last copy of 0 has none.
     ∷ (clauses 6 positiveLoop loopEntries, words (answered (6 ∷ 3 ∷ 3 ∷ [])) (negℤ (plus 3) ∷ plus 0 ∷ negℤ (plus 2) ∷ plus 0 ∷ negℤ (plus 1) ∷ plus 0 ∷ []))
+    ∷ (lparse 18 nothing, bytes (answered (18 ∷ [])) (ascii "0\n0\nB+\n0\nB-\n1\n0\n1\n"))
+    ∷ (lparse 73 sheetA, bytes (answered (73 ∷ [])) (ascii "1 2 1 0 3\n1 3 1 0 2\n1 2 1 1 4\n1 4 1 1 2\n0\n2 a0\n3 a1\n4 a2\n0\nB+\n0\nB-\n1\n0\n1\n"))
     ∷ []
 
 -- The two columns agree: every probe is answered as expected.

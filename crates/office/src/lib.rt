@@ -9,7 +9,7 @@ use core::WriteAnswer;
 use sheet::Limits;
 ghost use denote.Ref.{ptr};
 ghost use mathlib.Core.Path.{_≡_};
-ghost use Rattle.core.specs.Promises.{ReadPromise, BodyPromise, SlicePromise, FindPromise, ComponentsPromise, DefaultPromise};
+ghost use Rattle.core.specs.Promises.{ReadPromise, BodyPromise, SlicePromise, FindPromise, ComponentsPromise, DefaultPromise, LparsePromise};
 ghost use Rattle.core.specs.Promises.{TestPromise, UnfoldedPromise, ClausesPromise, CountPromise};
 ghost use Rattle.office.specs.Office.{office};
 
@@ -57,6 +57,13 @@ pub fn default_sequence(s: &[u8], out: &mut [u8]) -> WriteAnswer
     ensures { λ r. ⌜ DefaultPromise office (now (s .entry)) (now (out .entry)) (now (out .exit)) r ⌝ }
 {
     core::default_sequence(limits(), s, out)
+}
+
+// Writing lparse text: the refusal, or the number of bytes.
+pub fn lparse(s: &[u8], out: &mut [u8]) -> WriteAnswer
+    ensures { λ r. ⌜ LparsePromise office (now (s .entry)) (now (out .entry)) (now (out .exit)) r ⌝ }
+{
+    core::lparse(limits(), s, out)
 }
 
 // Showing a body: the refusal, or where its slice of the sheet starts and ends.

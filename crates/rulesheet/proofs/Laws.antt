@@ -6,7 +6,7 @@ use lib.IntN.{ℤ}
 use lib.ListN.{length}
 use Rattle.sheet.specs.declared.Limits.{Limits}
 use Rattle.core.specs.Outcome.{Outcome, refused, answered, code, fromVerdict, fromRead, fromWrite, fromTest, fromClauses, fromCount, Emits}
-use Rattle.core.specs.Outputs.{componentsOutput, defaultOutput, unfoldedOutput, clausesOutput, bodyStart, bodyEnd, bodyPositives}
+use Rattle.core.specs.Outputs.{componentsOutput, defaultOutput, lparseOutput, unfoldedOutput, clausesOutput, bodyStart, bodyEnd, bodyPositives}
 use Rattle.core.specs.Questions.{bodyQuestions}
 use Rattle.core.specs.declared.BodyPlace.{BodyPlace}
 use Rattle.core.specs.declared.ClausesAnswer.{ClausesAnswer}
@@ -20,7 +20,7 @@ use Rattle.core.specs.declared.TestAnswer.{TestAnswer}
 use Rattle.core.specs.declared.TestAnswer.the-variants as test
 use Rattle.core.specs.declared.WriteAnswer.{WriteAnswer}
 use Rattle.core.specs.declared.WriteAnswer.the-variants as write
-use Rattle.core.specs.Promises.{readOutcome, ReadPromise, FindPromise, componentsOutcome, ComponentsPromise, defaultOutcome, DefaultPromise}
+use Rattle.core.specs.Promises.{readOutcome, ReadPromise, FindPromise, componentsOutcome, ComponentsPromise, defaultOutcome, DefaultPromise, lparseOutcome, LparsePromise}
 use Rattle.core.specs.Promises.{testOutcome, TestPromise, unfoldedOutcome, UnfoldedPromise, clausesOutcome, ClausesPromise, countOutcome, CountPromise}
 use Rattle.core.proofs.Outcomes.{outcome-refused, outcome-answered}
 use Rattle.core.proofs.Reading.{found-says, found-place}
@@ -89,6 +89,15 @@ module _ (L : Limits) (s old new before : List ℕ) (answer : WriteAnswer) where
     pub default-yes : (l : ℕ) → answer ≡ write.Length l → Writes (defaultOutcome L (length old) s) (defaultOutput s) old new 0 before (l ∷ [])
     unfolding DefaultPromise
     default-yes l e = emits-yes _ (defaultOutput s) old new before (fromWrite answer) (l ∷ []) P (sym (ap fromWrite e))
+
+  module _ (P : LparsePromise L s old new answer) where
+    pub lparse-no : (refusal : ℕ) → answer ≡ write.Refused refusal → Writes (lparseOutcome L (length old) s) (lparseOutput s) old new refusal before before
+    unfolding LparsePromise
+    lparse-no refusal e = emits-no _ (lparseOutput s) old new before (fromWrite answer) refusal P (sym (ap fromWrite e))
+
+    pub lparse-yes : (l : ℕ) → answer ≡ write.Length l → Writes (lparseOutcome L (length old) s) (lparseOutput s) old new 0 before (l ∷ [])
+    unfolding LparsePromise
+    lparse-yes l e = emits-yes _ (lparseOutput s) old new before (fromWrite answer) (l ∷ []) P (sym (ap fromWrite e))
 
   module _ (q : List ℕ) (P : UnfoldedPromise L s q old new answer) where
     pub unfolded-no : (refusal : ℕ) → answer ≡ write.Refused refusal → Writes (unfoldedOutcome L (length old) s q) (unfoldedOutput s q) old new refusal before before

@@ -9,8 +9,8 @@ ghost use mathlib.Core.Path.{_≡_};
 ghost use mathlib.Core.List.{_∷_, []};
 ghost use lib.ListN.{length};
 ghost use Rattle.core.specs.Outcome.{code, fromVerdict};
-ghost use Rattle.core.specs.Outputs.{componentsOutput, defaultOutput, unfoldedOutput, clausesOutput};
-ghost use Rattle.core.specs.Promises.{readOutcome, componentsOutcome, defaultOutcome, testOutcome, unfoldedOutcome, clausesOutcome, countOutcome};
+ghost use Rattle.core.specs.Outputs.{componentsOutput, defaultOutput, lparseOutput, unfoldedOutput, clausesOutput};
+ghost use Rattle.core.specs.Promises.{readOutcome, componentsOutcome, defaultOutcome, lparseOutcome, testOutcome, unfoldedOutcome, clausesOutcome, countOutcome};
 ghost use Rattle.office.specs.Office.{office};
 ghost use Rattle.rulesheet.specs.Exported.{Stores, Writes, shownOutcome};
 
@@ -85,6 +85,22 @@ pub extern "C" fn rulesheet_default(sheet: &[u8], out: &mut [u8], written: &mut 
         WriteAnswer::Refused(refusal) => refusal,
         WriteAnswer::Length(bytes) => {
             *written = bytes as u64;
+            0
+        }
+    }
+}
+
+// Writing lparse text.
+#[no_mangle]
+pub extern "C" fn rulesheet_lparse(sheet: &[u8], out: &mut [u8], written: &mut u64) -> u32
+    ensures { λ r. ⌜ Writes (lparseOutcome office (length (now (out .entry))) (now (sheet .entry))) (lparseOutput (now (sheet .entry)))
+        (now (out .entry)) (now (out .exit)) r (now (written .entry) ∷ []) (now (written .exit) ∷ []) ⌝ }
+{
+    let answer = office::lparse(sheet, out);
+    match answer {
+        WriteAnswer::Refused(refusal) => refusal,
+        WriteAnswer::Length(text) => {
+            *written = text as u64;
             0
         }
     }

@@ -1,8 +1,8 @@
 -- Laws of walks over the records of a sheet that has passed questions 1 to 6.
 use mathlib.Core.Bool.{Bool, true, false}
-use mathlib.Core.List.{List, List·Memᴰ·not-nil, List·Memᴰ·cases-cons}
+use mathlib.Core.List.{List, List·Memᴰ, List·Memᴰ·not-nil, List·Memᴰ·cases-cons}
 use mathlib.Core.Logic.{⊎-elim}
-use mathlib.Core.Path.{_≡_, refl, sym, _∙_, subst}
+use mathlib.Core.Path.{_≡_, refl, sym, _∙_, ap, subst}
 use Prim.Native.Nat.{ℕ, zero, suc, _≤_, _<_}
 use native.Mathlib.Numerals.{sub-one}
 use native.Mathlib.Omega.{arith}
@@ -15,7 +15,7 @@ use Rattle.asp.specs.Program.{bodyBelow}
 use Rattle.sheet.specs.Questions.{ask, _then_}
 use Rattle.sheet.specs.Format.{end, posOf, negOf, complete, kindPasses, rising, listFits, listsFit, limited, opens, measured, recordQuestions, recordsQuestions, atomsByte, recordsByte}
 use Rattle.sheet.specs.inner.Walk.{formQuestions, Known, Walk, Stepped, Sound, AllSound}
-use Rattle.sheet.specs.Sheet.{recordAt, recordsFrom, records}
+use Rattle.sheet.specs.Sheet.{Record, recordAt, recordsFrom, records}
 use Rattle.sheet.specs.declared.Limits.{Limits}
 use Rattle.sheet.proofs.Records.{complete-out}
 
@@ -77,25 +77,53 @@ formed L s e =
       walk = record { passed = c .1 };
     }
 
--- The records of a walk name atoms below n.
-sound : (s : List ℕ) (n at : ℕ) → Known s n at → Sound n (recordAt s at)
-unfolding recordAt kindPasses listsFit listFits bodyBelow
-sound s n at K =
+-- What is known of a record's two lists: they rise strictly, below n.
+pub record Ordered (n : ℕ) (r : Record) : Type 0 where
+  pub pos : listFits n (r .body .pos) ≡ true
+  pub neg : listFits n (r .body .neg) ≡ true
+
+ordered : (s : List ℕ) (n at : ℕ) → Known s n at → Ordered n (recordAt s at)
+unfolding recordAt listsFit
+ordered s n at K =
     record {
-      kinds = K .kinds;
-      atoms = and-intro
-          (and-left (below n (posOf s at)) (rising (posOf s at)) (and-left (listFits n (posOf s at)) (listFits n (negOf s at)) (K .lists)))
-          (and-left (below n (negOf s at)) (rising (negOf s at)) (and-right (listFits n (posOf s at)) (listFits n (negOf s at)) (K .lists)));
+      pos = and-left (listFits n (posOf s at)) (listFits n (negOf s at)) (K .lists);
+      neg = and-right (listFits n (posOf s at)) (listFits n (negOf s at)) (K .lists);
     }
 
-pub walk-sound : (s : List ℕ) (n left at : ℕ) → Walk s n left at → AllSound n (recordsFrom left s at)
+-- So they name atoms below n.
+sound : (s : List ℕ) (n at : ℕ) → Known s n at → Sound n (recordAt s at)
+unfolding recordAt kindPasses listFits bodyBelow
+sound s n at K =
+    let O = ordered s n at K in
+    record {
+      kinds = K .kinds;
+      atoms = and-intro (and-left (below n (posOf s at)) (rising (posOf s at)) (O .pos)) (and-left (below n (negOf s at)) (rising (negOf s at)) (O .neg));
+    }
+
+-- What holds of every known record holds of the records of a walk.
+walk-all : (Q : Record → Type 0) (s : List ℕ) (n : ℕ) → ((at : ℕ) → Known s n at → Q (recordAt s at))
+    → (left at : ℕ) → Walk s n left at → (r : Record) → List·Memᴰ r (recordsFrom left s at) → Q r
 unfolding recordsFrom recordsQuestions
-walk-sound s n zero at W r m = absurd (List·Memᴰ·not-nil m)
-walk-sound s n (suc left) at W r m =
+walk-all Q s n h zero at W r m = absurd (List·Memᴰ·not-nil m)
+walk-all Q s n h (suc left) at W r m =
     let p = then-passed (recordQuestions n s at) (recordsQuestions left n s (end s at)) (W .passed) in
-    ⊎-elim (λ e. subst (Sound n) (sym e) (sound s n at (known n s at (p .0)))) (λ k. walk-sound s n left (end s at) (record { passed = p .1 }) r k)
+    ⊎-elim (λ e. subst Q (sym e) (h at (known n s at (p .0)))) (λ k. walk-all Q s n h left (end s at) (record { passed = p .1 }) r k)
     (List·Memᴰ·cases-cons m)
 
-pub records-sound : (L : Limits) (s : List ℕ) → formQuestions L s ≡ 0 → AllSound (atomsByte s) (records s)
-unfolding records
-records-sound L s e = walk-sound s (atomsByte s) (recordsByte s) 5 (formed L s e .walk)
+records-count : (k : ℕ) (s : List ℕ) (at : ℕ) → length (recordsFrom k s at) ≡ k
+unfolding recordsFrom
+records-count zero s at = refl
+records-count (suc k) s at = ap suc (records-count k s (end s at))
+
+module _ (L : Limits) (s : List ℕ) (e : formQuestions L s ≡ 0) where
+  pub records-sound : AllSound (atomsByte s) (records s)
+  unfolding records
+  records-sound = walk-all (Sound (atomsByte s)) s (atomsByte s) (sound s (atomsByte s)) (recordsByte s) 5 (formed L s e .walk)
+
+  pub records-ordered : (r : Record) → List·Memᴰ r (records s) → Ordered (atomsByte s) r
+  unfolding records
+  records-ordered = walk-all (Ordered (atomsByte s)) s (atomsByte s) (ordered s (atomsByte s)) (recordsByte s) 5 (formed L s e .walk)
+
+  pub records-few : length (records s) ≤ L .records
+  unfolding records
+  records-few = omega (arith, records-count (recordsByte s) s 5, formed L s e .count)

@@ -4,8 +4,8 @@ use mathlib.Core.Path.{_≡_, refl, sym, _∙_, ap, subst}
 use Prim.Native.Nat.{ℕ, suc, _+_, _≤_}
 use native.Mathlib.Nat.{add-zero, zero-add}
 use native.Mathlib.Omega.{arith}
-use lib.ListN.{length, length-append, drop, set}
-use lib.Seq.{sets, length-sets, sets-eq}
+use lib.ListN.{length, length-append, take, drop, set}
+use lib.Seq.{sets, length-sets, sets-eq, take-append-seam}
 use Rattle.writer.specs.inner.Wrote.{Wrote}
 
 module _ {A : Type 0} where
@@ -74,7 +74,23 @@ module _ {A : Type 0} where
         moved = omega arith;
       }
 
+  -- Where two parts have room, the first has, and behind it the second.
+  pub room-front : (old xs ys : List A) (at : ℕ) → at + length (xs ++ ys) ≤ length old → at + length xs ≤ length old
+  room-front old xs ys at h = let e = length-append xs ys in omega arith
+
+  pub room-behind : (old mid xs ys : List A) (at between : ℕ) → Wrote old at xs mid between → at + length (xs ++ ys) ≤ length old → between + length ys ≤ length mid
+  room-behind old mid xs ys at between W h = let e = length-append xs ys in let k = wrote-length old at xs mid between W in let m = W .moved in omega arith
+
   -- A whole output that fits: the output, then the buffer as it was.
   pub wrote-whole : (old ws new : List A) (next : ℕ) → Wrote old 0 ws new next → length ws ≤ length old → new ≡ ws ++ drop (length ws) old
   wrote-whole old ws new next W l =
       W .stored ∙ (sets-eq ws old 0 (let e = zero-add (length ws) in omega arith) ∙ ap (λ k. ws ++ drop k old) (zero-add (length ws)))
+
+  -- So the output is the beginning of the buffer.
+  pub wrote-front : (old ws new : List A) (next : ℕ) → Wrote old 0 ws new next → length ws ≤ length old → (next ≤ length new) × (take next new ≡ ws)
+  wrote-front old ws new next W l =
+      let whole = wrote-whole old ws new next W l in
+      let m = W .moved in
+      let k : next ≡ length ws = omega arith in
+      let size = ap length whole ∙ length-append ws (drop (length ws) old) in
+      (omega arith, ap (λ j. take j new) k ∙ (ap (take (length ws)) whole ∙ take-append-seam ws (drop (length ws) old)))

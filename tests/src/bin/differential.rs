@@ -52,7 +52,7 @@ fn input(random: &mut Random) -> (Vec<u8>, Vec<u8>) {
 fn calls(random: &mut Random, operation: Operation, sheet: &[u8], sequence: &[u8]) -> Vec<(Call, Answer)> {
     let call = match operation {
         // Each run is a process.
-        Operation::Program if !random.one_in(20) => return Vec::new(),
+        Operation::Program | Operation::LparseProgram if !random.one_in(20) => return Vec::new(),
         Operation::Program => Call::new(operation, &[sheet, sequence].concat()),
         _ if operation.takes(Argument::Sequence) => Call::new(operation, sheet).sequence(sequence),
         _ => Call::new(operation, sheet),

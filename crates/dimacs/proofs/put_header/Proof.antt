@@ -1,7 +1,7 @@
 -- `dimacs::put_header` meets its contract, one law for each way through it.
 use native.Mathlib.Omega.{arith}
 use borrow.Author.Needs.{needs}
-use Rattle.dimacs.proofs.Digits.{decimal-wide}
+use Rattle.text.proofs.Digits.{decimal-wide}
 use Rattle.dimacs.proofs.Lines.{wrote-header}
 use Rattle.dimacs.proofs.put_header.Statement.{statement}
 use Rattle.dimacs.proofs.put_header.Tie as tie

@@ -2,7 +2,7 @@
 use mathlib.Core.List.{List, [], _++_, flatMap}
 use Prim.Native.Nat.{ℕ, zero, suc}
 use lib.IntN.{ℤ, pos, negsuc, natAbs}
-use Rattle.dimacs.specs.Text.{ascii, decimal}
+use Rattle.text.specs.Text.{ascii, decimal}
 
 -- A minus sign, where the word is negative.
 unfoldable pub signText : ℤ → List ℕ

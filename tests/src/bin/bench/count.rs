@@ -4,9 +4,9 @@ use crate::check;
 use crate::sheets::families;
 use crate::timing::{median, time_in_turns, time_once};
 use rulesheet_tests::binding;
+use rulesheet_tests::reference::lparse_text;
 use rulesheet_tests::report::Tally;
-use rulesheet_tests::sheet::{Record, Sheet, CHOICE, CONSTRAINT};
-use std::fmt::Write;
+use rulesheet_tests::sheet::Sheet;
 use std::path::Path;
 use std::process::{self, Command};
 use std::{env, fs};
@@ -62,7 +62,7 @@ impl Case {
     fn new(family: &'static str, sheet: &Sheet, file: &Path) -> Case {
         let lparse_file = file.with_extension("lparse");
         fs::write(file, sheet.bytes()).expect("the sheet is written");
-        fs::write(&lparse_file, lparse(sheet)).expect("the sheet is written");
+        fs::write(&lparse_file, lparse_text(sheet)).expect("the sheet is written");
         let mut one = Command::new(env::current_exe().expect("this program's path"));
         one.arg("--one").arg(file);
         let mut clasp = Command::new("clasp");
@@ -116,27 +116,4 @@ fn print_row(family: &[Case]) {
         clasp / call,
         clasp / process
     );
-}
-
-/// A sheet in the format of lparse: atom a is a + 2, and 1 is the head of constraints, which must be false. A choice rule has
-/// type 3 and a list of heads, here of one.
-fn lparse(sheet: &Sheet) -> String {
-    let mut text = String::new();
-    for Record { kind, head, positives, negatives } in &sheet.records {
-        let head = match *kind {
-            CONSTRAINT => "1 1".to_string(),
-            CHOICE => format!("3 1 {}", head + 2),
-            _ => format!("1 {}", head + 2),
-        };
-        write!(text, "{head} {} {}", positives.len() + negatives.len(), negatives.len()).unwrap();
-        for atom in negatives.iter().chain(positives) {
-            write!(text, " {}", atom + 2).unwrap();
-        }
-        text.push('\n');
-    }
-    text.push_str("0\n");
-    for atom in 0..sheet.atoms {
-        writeln!(text, "{} a{atom}", atom + 2).unwrap();
-    }
-    text + "0\nB+\n0\nB-\n1\n0\n1\n"
 }

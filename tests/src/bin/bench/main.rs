@@ -5,6 +5,7 @@
 mod count;
 mod reading;
 mod sheets;
+mod text;
 mod timing;
 mod walks;
 mod writing;
@@ -27,6 +28,7 @@ fn measure() -> ! {
     walks::measure(&mut tally);
     reading::measure(&mut tally);
     writing::measure(&mut tally);
+    text::measure(&mut tally);
     println!();
     tally.finish()
 }

@@ -27,6 +27,18 @@ pub fn full(atoms: u8, heads: u8, rules: u8) -> Sheet {
     Sheet::new(atoms, (0..rules).map(|place| rule(place % heads, &all, &all)).collect())
 }
 
+/// Rules for one of 64 atoms, each with every atom in both lists.
+pub fn full_for(head: u8, rules: usize) -> Sheet {
+    let all: Vec<u8> = (0..64).collect();
+    Sheet::new(64, vec![rule(head, &all, &all); rules])
+}
+
+/// Two rules for each of 64 atoms, with one positive atom, the one before it, and one negative one.
+pub fn short_rules() -> Sheet {
+    let short = |place: u8| rule(place / 2, &[(place / 2).saturating_sub(1)], &[place % 64]);
+    Sheet::new(64, (0..128).map(short).collect())
+}
+
 /// The sheet without the positive atoms of its first rules, one for each of so many heads: so their copies keep rules.
 pub fn entered(mut sheet: Sheet, heads: usize) -> Sheet {
     sheet.records.iter_mut().take(heads).for_each(|record| record.positives.clear());

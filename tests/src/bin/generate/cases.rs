@@ -62,10 +62,12 @@ fn before_w2(call: &Call) -> Option<Answer> {
     unfolds.then(|| reference::answer_by(Unfolded::unshortened, call))
 }
 
-/// The first level at which the answer stands, if W2 left it as it was: W1 admits choice rules, where there was a refusal by 5.
+/// The first level at which the answer stands, if W2 left it as it was: W1 admits choice rules, where there was a refusal by 5,
+/// and W3 brings the lparse text.
 fn from(call: &Call) -> u32 {
     match call.operation {
-        Operation::Program => from(&reference::program_call(&call.sheet)),
+        Operation::Program => from(&reference::program_call(call)),
+        Operation::Lparse | Operation::LparseProgram => 3,
         _ => u32::from(reaches_choice(&call.sheet)),
     }
 }
@@ -111,7 +113,7 @@ fn until(call: &Call, answer: &Answer) -> u32 {
         // W8 answers with a second number.
         Answer::Count { .. } => 7,
         Answer::Text(_) => {
-            let call = reference::program_call(&call.sheet);
+            let call = reference::program_call(call);
             until(&call, &reference::answer(&call))
         }
         _ => LAST,

@@ -3,6 +3,7 @@
 mod cases;
 mod choices;
 mod count;
+mod lparse;
 mod program;
 mod sequences;
 mod sheets;
@@ -18,4 +19,5 @@ fn main() {
     unfolded::cases().write(folder, "unfolded.txt");
     count::cases().write(folder, "count.txt");
     program::cases().write(folder, "program.txt");
+    lparse::cases().write(folder, "lparse.txt");
 }

@@ -81,7 +81,7 @@ fn ask_some(cases: &mut Cases, random: &mut Random, bytes: &[u8]) {
     cases.add(random.pick(&calls).clone());
 }
 
-fn well_formed(random: &mut Random) -> Vec<Sheet> {
+pub fn well_formed(random: &mut Random) -> Vec<Sheet> {
     let mut sheets = vec![
         Sheet::new(0, vec![]),
         Sheet::new(1, vec![]),
@@ -155,7 +155,7 @@ fn upto(n: u8) -> Vec<u8> {
     (0..n).collect()
 }
 
-fn malformed() -> Vec<Vec<u8>> {
+pub fn malformed() -> Vec<Vec<u8>> {
     [headers(), frames(), heads(), lists(), several_faults()].concat()
 }
 
@@ -287,7 +287,7 @@ fn several_faults() -> Vec<Vec<u8>> {
 }
 
 /// Choice rules with a fault, and 65 atoms with faults that are asked about before and after.
-fn malformed_choices() -> Vec<Vec<u8>> {
+pub fn malformed_choices() -> Vec<Vec<u8>> {
     let mut sheets = Vec::new();
     for atoms in [0, 1, 4, 64] {
         sheets.extend([0, 1, 3, 4, 63, 64, 255].map(|head| Sheet::new(atoms, vec![choice(head, &[], &[])]).bytes()));

@@ -1,0 +1,38 @@
+-- `core::lparse` meets its contract, one law for each way through it.
+use Rattle.core.proofs.Exporting.{lparse-refused, lparse-sizes, lparse-full, lparse-done}
+use borrow.Author.Needs.{needs}
+use Rattle.core.proofs.lparse.Statement.{statement}
+use Rattle.core.proofs.lparse.Tie as tie
+
+ask-records-requires : tie.Need-ask-records-requires
+ask-records-requires c κs = search needs
+
+returns : tie.Need-returns
+returns c = search (needs, lparse-refused)
+
+lparse-length-requires : tie.Need-lparse-length-requires
+lparse-length-requires c κs = lparse-sizes _ _ _ _ _ _ _ (c .before .before .before .before .before .ask-records .ensures) (search needs) (c .before .before .before .before .before .before .before .before .before .before .before .before .pre)
+
+returns-2 : tie.Need-returns-2
+returns-2 c = lparse-full _ _ _ _ _ _ _ (c .before .before .before .before .before .before .before .ask-records .ensures) (search needs) _ _ (c .before .lparse-length .ensures) (search needs)
+
+put-lparse-requires : tie.Need-put-lparse-requires
+put-lparse-requires c κs = (lparse-sizes _ _ _ _ _ _ _ (c .before .before .before .before .before .before .before .before .before .before .before .before .ask-records .ensures) (search needs) (c .before .before .before .before .before .before .before .before .before .before .before .before .before .before .before .before .before .before .before .pre) .0, lparse-sizes _ _ _ _ _ _ _ (c .before .before .before .before .before .before .before .before .before .before .before .before .ask-records .ensures) (search needs) (c .before .before .before .before .before .before .before .before .before .before .before .before .before .before .before .before .before .before .before .pre) .1, search needs)
+
+same-length : tie.Need-same-length
+same-length c = search needs
+
+returns-3 : tie.Need-returns-3
+returns-3 c = lparse-done _ _ _ _ _ _ _ (c .before .before .before .before .before .before .before .before .before .before .before .before .before .before .before .ask-records .ensures) (search needs) _ _ (c .before .before .before .before .before .before .before .before .before .lparse-length .ensures) _ _ (search needs) (c .before .before .put-lparse .ensures)
+
+pub lparse-spec : {M : Type 1} → statement M
+lparse-spec =
+    tie.close
+    (tie.spec
+    ask-records-requires
+    returns
+    lparse-length-requires
+    returns-2
+    put-lparse-requires
+    same-length
+    returns-3)

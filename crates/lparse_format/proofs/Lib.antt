@@ -1,0 +1,4 @@
+pub mod Decoding
+pub mod Meaning
+pub mod Longest
+pub mod Claims

@@ -1,0 +1,5 @@
+pub mod Program
+pub mod Text
+pub mod Decoded
+pub mod Meaning
+pub mod Claims

@@ -1,0 +1,71 @@
+-- `lparse_output::put_records` meets its contract, one law for each way through it.
+use Prim.Native.Nat.{_-_}
+use borrow.Author.Needs.{needs}
+use Rattle.lparse_output.proofs.Lines.{RecordsLeft, records-start, records-room, records-turn, records-length, records-end}
+use Rattle.lparse_output.proofs.put_records.Statement.{statement}
+use Rattle.lparse_output.proofs.put_records.Tie as tie
+
+abbrev Inv-loop : tie.InvT-loop
+Inv-loop out₀ m kinds heads pos neg next₀ j₀ out next j = RecordsLeft kinds heads pos neg m out₀ out next j
+
+abbrev μ-loop : tie.MeasureT-loop
+μ-loop out₀ m kinds heads pos neg next₀ j₀ out next j = m - j
+
+loop-holds : tie.Need-loop-holds Inv-loop μ-loop
+loop-holds c = search (needs, records-start)
+
+element-copy-out-put-record : tie.Need-element-copy-out-put-record Inv-loop μ-loop
+element-copy-out-put-record c = search needs
+
+element-copy-out-put-record-2 : tie.Need-element-copy-out-put-record-2 Inv-loop μ-loop
+element-copy-out-put-record-2 c = search needs
+
+mul-put-record : tie.Need-mul-put-record Inv-loop μ-loop
+mul-put-record c = search needs
+
+element-copy-out-put-record-3 : tie.Need-element-copy-out-put-record-3 Inv-loop μ-loop
+element-copy-out-put-record-3 c = search needs
+
+mul-put-record-2 : tie.Need-mul-put-record-2 Inv-loop μ-loop
+mul-put-record-2 c = search needs
+
+element-copy-out-put-record-4 : tie.Need-element-copy-out-put-record-4 Inv-loop μ-loop
+element-copy-out-put-record-4 c = search needs
+
+put-record-requires : tie.Need-put-record-requires Inv-loop μ-loop
+put-record-requires c κs = search (needs, records-room)
+
+add-j : tie.Need-add-j Inv-loop μ-loop
+add-j c = search needs
+
+loop-less : tie.Need-loop-less Inv-loop μ-loop
+loop-less c = search needs
+
+loop-again : tie.Need-loop-again Inv-loop μ-loop
+loop-again c = search (needs, records-turn)
+
+same-length : tie.Need-same-length Inv-loop μ-loop
+same-length c = search (needs, records-length)
+
+returns : tie.Need-returns Inv-loop μ-loop
+returns c = search (needs, records-end)
+
+pub put-records-spec : {M : Type 1} → statement M
+put-records-spec =
+    tie.close
+    (tie.spec
+    Inv-loop
+    μ-loop
+    loop-holds
+    element-copy-out-put-record
+    element-copy-out-put-record-2
+    mul-put-record
+    element-copy-out-put-record-3
+    mul-put-record-2
+    element-copy-out-put-record-4
+    put-record-requires
+    add-j
+    loop-less
+    loop-again
+    same-length
+    returns)
