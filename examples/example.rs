@@ -1,4 +1,5 @@
-//! Sheet A from Rust: its default sequence, its clauses and its settled states; and a sheet with a choice rule, also as text.
+//! Sheet A from Rust: its default sequence, the chain that a shorter one lacks, its clauses and its settled states; and a sheet
+//! with a choice rule, also as text.
 
 #[path = "../include/rulesheet.rs"]
 mod rulesheet;
@@ -8,9 +9,14 @@ fn main() -> Result<(), u32> {
     let mut sequence = [0; rulesheet::DEFAULT_ROOM];
     let [written] = rulesheet::default_sequence(&sheet, &mut sequence)?;
     let sequence = &sequence[..written as usize];
-    let entries: Vec<String> = sequence[3..].iter().map(u8::to_string).collect();
-    println!("default sequence: {}", entries.join(" "));
+    println!("default sequence: {}", listed(&sequence[3..]));
     println!("test: {}", rulesheet::test(&sheet, sequence).err().unwrap_or(0));
+    let shorter = [1, 0, 3, 0, 1, 2];
+    let mut chain = [0; rulesheet::MISSING_ROOM];
+    let [written] = rulesheet::missing(&sheet, &shorter, &mut chain)?;
+    println!("missing from {}: {}", listed(&shorter[3..]), listed(&chain[..written as usize]));
+    let refused = rulesheet::missing(&sheet, sequence, &mut chain).unwrap_err();
+    println!("missing from the default sequence: refused {refused}");
     let mut words = [0; 16_384];
     let [written, variables, clauses] = rulesheet::clauses(&sheet, sequence, &mut words)?;
     let ended = words[..written as usize].split_inclusive(|&word| word == 0).count();
@@ -27,4 +33,8 @@ fn main() -> Result<(), u32> {
     print!("for a solver:\n{}", String::from_utf8_lossy(&text[..written as usize]));
     println!("no bytes: refused {}", rulesheet::count(&[]).unwrap_err());
     Ok(())
+}
+
+fn listed(atoms: &[u8]) -> String {
+    atoms.iter().map(u8::to_string).collect::<Vec<_>>().join(" ")
 }

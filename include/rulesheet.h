@@ -2,14 +2,14 @@
  *
  * Records name the written atoms, those below the sheet's number n. Each choice rule has a fresh atom of its own, numbered
  * from n on in the order of the records. Reading, bodies and the text for solvers speak of written atoms alone; components,
- * sequences, the unfolded program and the clauses speak of all atoms, fresh ones included.
+ * sequences, chains, the unfolded program and the clauses speak of all atoms, fresh ones included.
  *
  * Every function returns 0, or refuses with the number of the first question that is answered by no. On a refusal nothing
  * that was lent is changed. On success the numbers are stored, and of out only the first *written elements are changed.
  *
  * Lent memory does not overlap; a pointer may not be null, even with length 0. A function keeps nothing from one call to
  * the next and allocates nothing. A call takes at most 36 KB of stack: as measured, read, body, components, default
- * and lparse 8 KB, count 11 KB, test 19 KB, unfolded and clauses 32 KB. */
+ * and lparse 8 KB, count 11 KB, test 16 KB, missing 22 KB, unfolded and clauses 29 KB. */
 
 #ifndef RULESHEET_H
 #define RULESHEET_H
@@ -35,7 +35,8 @@ enum rulesheet_refused {
     RULESHEET_REFUSED_ROOM = 10,      /* the output does not fit */
     RULESHEET_REFUSED_NEGATED = 11,   /* more than 16 atoms are negated in rules or heads of choice rules */
     RULESHEET_REFUSED_NUMBER = 12,    /* there is no record with that number */
-    RULESHEET_REFUSED_FRESH = 13      /* more than 64 atoms, with one for each choice rule */
+    RULESHEET_REFUSED_FRESH = 13,     /* more than 64 atoms, with one for each choice rule */
+    RULESHEET_REFUSED_FOUND = 14      /* the sequence lacks no chain */
 };
 
 /* Verdicts on the number of settled states. */
@@ -50,6 +51,7 @@ enum rulesheet_verdict {
  * as many bytes of text. */
 #define RULESHEET_COMPONENTS_ROOM 64
 #define RULESHEET_DEFAULT_ROOM 643
+#define RULESHEET_MISSING_ROOM 10
 #define RULESHEET_UNFOLDED_ROOM 9585475
 #define RULESHEET_CLAUSES_ROOM 38190594
 #define RULESHEET_LPARSE_ROOM 49088
@@ -70,6 +72,12 @@ uint32_t rulesheet_default(const uint8_t *sheet, size_t sheet_len, uint8_t *out,
 
 /* Tests an unfolding sequence: 0 where every chain is found in it. Each atom is a chain, so it names every fresh atom. */
 uint32_t rulesheet_test(const uint8_t *sheet, size_t sheet_len, const uint8_t *sequence, size_t sequence_len);
+
+/* Writes the shortest chain that a sequence lacks, one byte for each of its atoms, fresh ones included; of several, the one
+ * whose first differing atom is smallest. It asks what testing asks before the chains, then 14: where the sequence passes there
+ * is no such chain. Then it asks for room. */
+uint32_t rulesheet_missing(const uint8_t *sheet, size_t sheet_len, const uint8_t *sequence, size_t sequence_len,
+                           uint8_t *out, size_t out_len, uint64_t *written);
 
 /* Writes the unfolded program as words; out_len is the number of words lent. */
 uint32_t rulesheet_unfolded(const uint8_t *sheet, size_t sheet_len, const uint8_t *sequence, size_t sequence_len,

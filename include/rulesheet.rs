@@ -29,6 +29,15 @@ pub mod raw {
             written: *mut u64,
         ) -> u32;
         pub fn rulesheet_test(sheet: *const u8, sheet_len: usize, sequence: *const u8, sequence_len: usize) -> u32;
+        pub fn rulesheet_missing(
+            sheet: *const u8,
+            sheet_len: usize,
+            sequence: *const u8,
+            sequence_len: usize,
+            out: *mut u8,
+            out_len: usize,
+            written: *mut u64,
+        ) -> u32;
         pub fn rulesheet_unfolded(
             sheet: *const u8,
             sheet_len: usize,
@@ -63,6 +72,7 @@ pub mod raw {
 /// Room that is enough for every legal input, in bytes or words.
 pub const COMPONENTS_ROOM: usize = 64;
 pub const DEFAULT_ROOM: usize = 643;
+pub const MISSING_ROOM: usize = 10;
 pub const UNFOLDED_ROOM: usize = 9_585_475;
 pub const CLAUSES_ROOM: usize = 38_190_594;
 pub const LPARSE_ROOM: usize = 49_088;
@@ -102,6 +112,14 @@ pub fn default_sequence(sheet: &[u8], out: &mut [u8]) -> Result<[u64; 1], u32> {
 pub fn test(sheet: &[u8], sequence: &[u8]) -> Result<(), u32> {
     let (s, q) = (sheet.as_ptr(), sequence.as_ptr());
     answer(unsafe { raw::rulesheet_test(s, sheet.len(), q, sequence.len()) }, ())
+}
+
+/// Writes the shortest chain that the sequence lacks, fresh atoms included: the number of its atoms.
+pub fn missing(sheet: &[u8], sequence: &[u8], out: &mut [u8]) -> Result<[u64; 1], u32> {
+    let mut written = 0;
+    let (s, q, o, room) = (sheet.as_ptr(), sequence.as_ptr(), out.as_mut_ptr(), out.len());
+    let status = unsafe { raw::rulesheet_missing(s, sheet.len(), q, sequence.len(), o, room, &mut written) };
+    answer(status, [written])
 }
 
 /// Writes the unfolded program: the number of words.

@@ -1,6 +1,6 @@
 /* How much stack each operation takes, on sheets and sequences that lead through all of its code: the stack of a call is
- * filled with a pattern beforehand. Prints bytes, and for the operations that write words or a text the length of the longest
- * output. */
+ * filled with a pattern beforehand. Prints bytes, and for the operations that write words, a text or a chain the length of the
+ * longest output. */
 #define _GNU_SOURCE
 #include "rulesheet.h"
 #include <stdio.h>
@@ -25,6 +25,9 @@ static void body_call(void) { status = rulesheet_body(sheet, sheet_len, 0, &numb
 static void components_call(void) { status = rulesheet_components(sheet, sheet_len, (uint8_t *)out, ROOM, numbers); }
 static void default_call(void) { status = rulesheet_default(sheet, sheet_len, (uint8_t *)out, ROOM, numbers); }
 static void test_call(void) { status = rulesheet_test(sheet, sheet_len, sequence, sequence_len); }
+static void missing_call(void) {
+    status = rulesheet_missing(sheet, sheet_len, sequence, sequence_len, (uint8_t *)out, ROOM, numbers);
+}
 static void unfolded_call(void) {
     status = rulesheet_unfolded(sheet, sheet_len, sequence, sequence_len, out, ROOM, numbers);
 }
@@ -137,6 +140,18 @@ static void complete(void) {
     sequence_len = numbers[0];
 }
 
+/* The same with the default sequence but for its last ten entries: it lacks one chain, of ten atoms. */
+static void lacking(void) {
+    complete();
+    set_sequence(590);
+}
+
+/* The same without an entry: it lacks every chain. */
+static void empty(void) {
+    complete();
+    set_sequence(0);
+}
+
 /* 16 atoms, each derived where one of the eight behind it is not: many atoms are decided one by one. */
 static void decided(void) {
     begin(64);
@@ -192,11 +207,12 @@ int main(void) {
                  {"components", components_call, NULL},
                  {"default", default_call, NULL},
                  {"test", test_call, NULL},
+                 {"missing", missing_call, "bytes"},
                  {"unfolded", unfolded_call, "words"},
                  {"clauses", clauses_call, "words"},
                  {"lparse", lparse_call, "bytes"},
                  {"count", count_call, NULL}};
-    static void (*const inputs[])(void) = {longest, longest_text, complete, decided, most_rules, chosen};
+    static void (*const inputs[])(void) = {longest, longest_text, complete, lacking, empty, decided, most_rules, chosen};
     out = malloc(sizeof *out * ROOM);
     if (out == NULL) {
         return 1;

@@ -2,9 +2,9 @@
 
 use crate::binding::raw::{
     rulesheet_body, rulesheet_clauses, rulesheet_components, rulesheet_count, rulesheet_default, rulesheet_lparse,
-    rulesheet_read, rulesheet_test, rulesheet_unfolded,
+    rulesheet_missing, rulesheet_read, rulesheet_test, rulesheet_unfolded,
 };
-use crate::lent::{Lent, Unchanged};
+use crate::lent::{Element, Lent, Unchanged};
 use crate::service::{Answer, Call, Operation, Service};
 use std::io::Write;
 use std::path::{Path, PathBuf};
@@ -12,6 +12,7 @@ use std::process::{Command, Stdio};
 use std::thread;
 
 type Writer = unsafe extern "C" fn(*const u8, usize, *mut u8, usize, *mut u64) -> u32;
+type SequenceWriter<T> = unsafe extern "C" fn(*const u8, usize, *const u8, usize, *mut T, usize, *mut u64) -> u32;
 
 /// What is lent where a vector names no room and the answer needs none.
 const SPARE: usize = 1_000;
@@ -60,10 +61,11 @@ impl Service for Library {
             Operation::Components => bytes(rulesheet_components, Answer::Bytes, &sheet, room),
             Operation::Default => bytes(rulesheet_default, Answer::Bytes, &sheet, room),
             Operation::Test => test(&sheet, &sequence),
-            Operation::Unfolded => unfolded(&sheet, &sequence, room),
+            Operation::Unfolded => elements(rulesheet_unfolded, Answer::Unfolded, &sheet, &sequence, room),
             Operation::Clauses => clauses(&sheet, &sequence, room),
             Operation::Count => count(&sheet),
             Operation::Lparse => bytes(rulesheet_lparse, Answer::Lparse, &sheet, room),
+            Operation::Missing => elements(rulesheet_missing, Answer::Missing, &sheet, &sequence, room),
             Operation::Program | Operation::LparseProgram => unreachable!("it runs a program"),
         }?;
         if sheet.read_back() != call.sheet || sequence.read_back() != call.sequence {
@@ -149,14 +151,20 @@ fn test(sheet: &Input, sequence: &Input) -> Result<Answer, String> {
     }
 }
 
-fn unfolded(sheet: &Input, sequence: &Input, room: usize) -> Result<Answer, String> {
+fn elements<T: Element>(
+    function: SequenceWriter<T>,
+    answer: fn(Vec<T>) -> Answer,
+    sheet: &Input,
+    sequence: &Input,
+    room: usize,
+) -> Result<Answer, String> {
     let (mut out, mut written) = (Lent::new(room), Lent::one());
     let status = unsafe {
         let (o, w) = (out.pointer(), written.pointer());
-        rulesheet_unfolded(sheet.pointer(), sheet.length(), sequence.pointer(), sequence.length(), o, out.room(), w)
+        function(sheet.pointer(), sheet.length(), sequence.pointer(), sequence.length(), o, out.room(), w)
     };
     match status {
-        0 => Ok(Answer::Unfolded(out.output(written.value()?)?)),
+        0 => Ok(answer(out.output(written.value()?)?)),
         status => refused(status, &[&out, &written]),
     }
 }

@@ -4,6 +4,7 @@ mod chains;
 mod choices;
 mod graph;
 mod lparse;
+mod missing;
 mod questions;
 mod states;
 mod unfolded;
@@ -12,6 +13,7 @@ pub use chains::all_found;
 pub use choices::expanded;
 pub use graph::Graph;
 pub use lparse::text as lparse_text;
+pub use missing::{first_missing, shortest_missing};
 pub use questions::{sequence as read_sequence, sheet as read_sheet};
 pub use unfolded::Unfolded;
 
@@ -62,6 +64,7 @@ pub fn answer_by(derivation: Derivation, call: &Call) -> Answer {
         Operation::Clauses => unfold(derivation, &call.sheet, &call.sequence).map(clauses),
         Operation::Count => count(&call.sheet),
         Operation::Lparse => lparse(&call.sheet),
+        Operation::Missing => missing(&call.sheet, &call.sequence),
         Operation::Program | Operation::LparseProgram => Ok(Answer::Text(printed(derivation, call))),
     };
     within(answer.unwrap_or_else(Answer::Refused), call.room)
@@ -85,10 +88,16 @@ fn accepted(bytes: &[u8]) -> Result<(Sheet, Graph), Refusal> {
     Ok((sheet, graph))
 }
 
-/// Questions 1 to 6, 13, and 7 to 9.
-fn accepted_together(sheet: &[u8], sequence: &[u8]) -> Result<(Sheet, Graph, Vec<u8>), Refusal> {
+/// Questions 1 to 6, 13, 7 and 8.
+fn well_formed(sheet: &[u8], sequence: &[u8]) -> Result<(Sheet, Graph, Vec<u8>), Refusal> {
     let (sheet, graph) = accepted(sheet)?;
     let entries = questions::sequence(sequence, sheet.all_atoms() as u8)?;
+    Ok((sheet, graph, entries))
+}
+
+/// Questions 1 to 6, 13, and 7 to 9.
+fn accepted_together(sheet: &[u8], sequence: &[u8]) -> Result<(Sheet, Graph, Vec<u8>), Refusal> {
+    let (sheet, graph, entries) = well_formed(sheet, sequence)?;
     if !all_found(&graph, &entries) {
         return Err(9);
     }
@@ -124,6 +133,16 @@ fn default(sheet: &[u8]) -> Result<Answer, Refusal> {
 
 fn test(sheet: &[u8], sequence: &[u8]) -> Result<Answer, Refusal> {
     accepted_together(sheet, sequence).map(|_| Answer::Passed)
+}
+
+/// Question 14 is answered as 9 is, so that the chains are listed only where one is missing: a complete component of ten has ten
+/// million.
+fn missing(sheet: &[u8], sequence: &[u8]) -> Result<Answer, Refusal> {
+    let (_, graph, entries) = well_formed(sheet, sequence)?;
+    if all_found(&graph, &entries) {
+        return Err(14);
+    }
+    Ok(Answer::Missing(first_missing(&graph, &entries).expect("a chain is missing")))
 }
 
 /// The unfolded program of a sheet and a sequence that are accepted together.

@@ -56,6 +56,18 @@ pub fn without(entries: &[u8], place: usize) -> Vec<u8> {
     [&entries[..place], &entries[place + 1..]].concat()
 }
 
+/// A passing sequence without up to half of its entries, in which every atom still stands.
+pub fn thinned(random: &mut Random, graph: &Graph) -> Vec<u8> {
+    let mut entries = if random.one_in(2) { mixed(random, graph) } else { reordered(random, graph) };
+    for _ in 0..random.between(0, entries.len() / 2) {
+        let shorter = without(&entries, random.below(entries.len()));
+        if graph.atoms().all(|atom| shorter.contains(&atom)) {
+            entries = shorter;
+        }
+    }
+    entries
+}
+
 /// Some entries inserted at random places.
 pub fn lengthened(random: &mut Random, graph: &Graph, entries: &[u8], number: usize) -> Vec<u8> {
     let atoms: Vec<u8> = graph.atoms().collect();

@@ -15,6 +15,7 @@ pub enum Operation {
     Program,
     Lparse,
     LparseProgram,
+    Missing,
 }
 
 /// An argument of a call, as vector files write it.
@@ -27,7 +28,7 @@ pub enum Argument {
 }
 
 impl Operation {
-    pub const ALL: [Operation; 11] = [
+    pub const ALL: [Operation; 12] = [
         Operation::Read,
         Operation::Body,
         Operation::Components,
@@ -39,6 +40,7 @@ impl Operation {
         Operation::Program,
         Operation::Lparse,
         Operation::LparseProgram,
+        Operation::Missing,
     ];
 
     pub fn name(self) -> &'static str {
@@ -54,6 +56,7 @@ impl Operation {
             Operation::Program => "program",
             Operation::Lparse => "lparse",
             Operation::LparseProgram => "lparse-program",
+            Operation::Missing => "missing",
         }
     }
 
@@ -68,7 +71,7 @@ impl Operation {
             Operation::Body => &[Sheet, Number],
             Operation::Components | Operation::Default | Operation::Lparse => &[Sheet, Room],
             Operation::Test => &[Sheet, Sequence],
-            Operation::Unfolded | Operation::Clauses => &[Sheet, Sequence, Room],
+            Operation::Unfolded | Operation::Clauses | Operation::Missing => &[Sheet, Sequence, Room],
         }
     }
 
@@ -122,13 +125,14 @@ pub enum Answer {
     Count { count: u64, verdict: u64 },
     Text(String),
     Lparse(Vec<u8>),
+    Missing(Vec<u8>),
 }
 
 impl Answer {
     /// The bytes or words written.
     pub fn length(&self) -> usize {
         match self {
-            Answer::Bytes(bytes) | Answer::Lparse(bytes) => bytes.len(),
+            Answer::Bytes(bytes) | Answer::Lparse(bytes) | Answer::Missing(bytes) => bytes.len(),
             Answer::Unfolded(words) => words.len(),
             Answer::Clauses { words, .. } => words.len(),
             _ => 0,
@@ -143,6 +147,7 @@ impl Answer {
             Answer::Body { slice, .. } if slice.is_empty() => "ok empty".into(),
             Answer::Bytes(bytes) if bytes.is_empty() => "ok empty".into(),
             Answer::Text(text) if text.starts_with("refused ") => text.trim_end().into(),
+            Answer::Missing(chain) => format!("ok of length {}", chain.len()),
             _ => "ok".into(),
         }
     }
@@ -164,7 +169,7 @@ impl fmt::Display for Answer {
             Answer::Refused(number) => write!(f, "refused {number}"),
             Answer::Read { atoms, records } => write!(f, "ok {atoms} {records}"),
             Answer::Body { positives, slice, offset } => write!(f, "ok {positives} {} {offset}", hex(slice)),
-            Answer::Bytes(bytes) => write!(f, "ok {}", hex(bytes)),
+            Answer::Bytes(bytes) | Answer::Missing(bytes) => write!(f, "ok {}", hex(bytes)),
             Answer::Passed => write!(f, "ok"),
             Answer::Unfolded(words) => write!(f, "ok {} {}", words.len(), word_list(words, |word| word.to_be_bytes())),
             Answer::Clauses { words, variables, clauses } => {

@@ -85,7 +85,7 @@ impl Case {
     fn needed(&self) -> Option<usize> {
         let output = self.answer.strip_prefix("ok ")?.split(' ').next()?;
         match self.call.operation {
-            Operation::Components | Operation::Default => Some(unhex(output)?.len()),
+            Operation::Components | Operation::Default | Operation::Missing => Some(unhex(output)?.len()),
             Operation::Unfolded | Operation::Clauses | Operation::Lparse => output.parse().ok(),
             _ => None,
         }

@@ -1,4 +1,5 @@
 pub mod Digits
+pub mod Chosen
 pub mod Gathering
 pub mod Visiting
 pub mod Runs

@@ -36,13 +36,13 @@ module _ (x : ℕ) (L : Atoms) (S : Listing x L) (P : Program) (c : ℕ) (rows :
   atom-low : (p : ℕ) → p < L .t → atom p < P .atoms
   atom-low p l = member-low (atom p) (listed-has x L S p l)
 
-  atom-named : (p : ℕ) → p < L .t → component P (atom p) ≡ c
+  pub atom-named : (p : ℕ) → p < L .t → component P (atom p) ≡ c
   atom-named p l = eqb-true (component P (atom p)) c (and-right (ltb (atom p) (P .atoms)) (eqb (component P (atom p)) c) (sym (M .members (atom p)) ∙ listed-has x L S p l))
 
-  named-place : (a : ℕ) → a < P .atoms → component P a ≡ c → (p : ℕ) × (p < L .t) × (atom p ≡ a)
+  pub named-place : (a : ℕ) → a < P .atoms → component P a ≡ c → (p : ℕ) × (p < L .t) × (atom p ≡ a)
   named-place a l e = let h = G .low in listed-place x L S a (omega arith) (M .members a ∙ and-intro (lt-ltb a (P .atoms) l) (eq-eqb (component P a) c e))
 
-  setting : Setting P rows (L .atoms) (L .t)
+  pub setting : Setting P rows (L .atoms) (L .t)
   setting =
       record {
         formed = G .formed;

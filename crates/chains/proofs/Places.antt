@@ -2,16 +2,17 @@
 use mathlib.Core.Bool.{Bool}
 use mathlib.Core.List.{List}
 use mathlib.Core.Path.{_≡_, sym, _∙_, ap, subst}
-use Prim.Native.Nat.{ℕ, _+_, _*_, _%_, _^_, _≤_, _<_}
+use Prim.Native.Nat.{ℕ, _+_, _-_, _*_, _%_, _^_, _≤_, _<_}
 use native.Mathlib.Nat.{one-mul}
 use native.Mathlib.Omega.{arith}
 use borrow.Author.Tests.{eqb-true, eqb-false}
-use lib.Dec.{eqb}
+use lib.Dec.{eqb, ltb}
 use lib.ListN.{getD}
 use lib.Pow.{pow-mono, pow-pos, shl-exact}
 use Rattle.lists.proofs.Bools.{by-bool}
 use Rattle.bits.specs.inner.Sets.{has, WithIf}
 use Rattle.bits.specs.inner.Listed.{Low}
+use Rattle.bits.proofs.Digits.{full-has}
 use Rattle.bits.proofs.Picking.{Picking, picking-start, picking-turn, picked}
 use Rattle.chains.specs.inner.Subsets.{Followers, PlaceOf, Power}
 
@@ -33,22 +34,30 @@ module _ (rows atoms : List ℕ) (k x : ℕ) where
   atom-low p a L l e = subst (λ n. n < 64) (sym e) (L .low p l)
 
 -- The atom is at none of the places below p.
-pub record Missing (atoms : List ℕ) (x p : ℕ) : Type 0 where
+pub record Absent (atoms : List ℕ) (x p : ℕ) : Type 0 where
   pub none : (q : ℕ) → q < p → getD atoms q 0 ≡ x → ⊥
 
 module _ (atoms : List ℕ) (k x : ℕ) where
-  pub missing-start : Missing atoms x 0
-  missing-start = record { none = λ q l. absurd (omega arith) }
+  pub absent-start : Absent atoms x 0
+  absent-start = record { none = λ q l. absurd (omega arith) }
 
-  pub missing-turn : (p a : ℕ) → Missing atoms x p → a ≡ getD atoms p 0 → (a ≡ x → ⊥) → Missing atoms x (p + 1)
-  missing-turn p a M e ne =
+  pub absent-turn : (p a : ℕ) → Absent atoms x p → a ≡ getD atoms p 0 → (a ≡ x → ⊥) → Absent atoms x (p + 1)
+  absent-turn p a M e ne =
       record { none = λ q l. by-bool (eqb q p) (λ t g. ne (e ∙ (ap (λ n. getD atoms n 0) (sym (eqb-true q p t)) ∙ g))) (λ t. let d = eqb-false q p t in M .none q (omega arith)) }
 
   pub place-found : (p a : ℕ) → p < k → a ≡ getD atoms p 0 → a ≡ x → PlaceOf atoms k x p
-  place-found p a l e g = record { found = λ _. sym e ∙ g; missing = λ m. absurd (omega arith) }
+  place-found p a l e g = record { found = λ _. sym e ∙ g; absent = λ m. absurd (omega arith) }
 
-  pub place-missing : (p : ℕ) → Missing atoms x p → k ≤ p → PlaceOf atoms k x k
-  place-missing p M l = record { found = λ m. absurd (omega arith); missing = λ _ q m. M .none q (omega arith) }
+  pub place-absent : (p : ℕ) → Absent atoms x p → k ≤ p → PlaceOf atoms k x k
+  place-absent p M l = record { found = λ m. absurd (omega arith); absent = λ _ q m. M .none q (omega arith) }
+
+-- The set of all k places.
+module _ (k size : ℕ) (N : Power k size) where
+  pub full-places : (p : ℕ) → has (size - 1) p ≡ ltb p k
+  full-places p = ap (λ n. has (n - 1) p) (N .is) ∙ full-has k p
+
+  pub full-small : size - 1 < 2 ^ k
+  full-small = let e = N .is in let h = pow-pos k in omega arith
 
 pub power-is : (k : ℕ) → k ≤ 10 → Power k (1 * 2 ^ k % 2 ^ 64)
 power-is k l =

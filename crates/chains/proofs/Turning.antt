@@ -8,7 +8,7 @@ use native.Mathlib.Omega.{arith}
 use borrow.Author.Tests.{eqb-true, eqb-false, eq-eqb, ne-eqb, lt-ltb, ltb-true}
 use lib.Dec.{eqb, ltb}
 use lib.ListN.{length, getD, drop, replicate, length-replicate, getD-replicate}
-use lib.Pow.{pow-pos, pow-mono}
+use lib.Pow.{pow-mono}
 use lib.Seq.{drop-cons, drop-drop, drop-length}
 use Rattle.lists.specs.Lists.{below}
 use Rattle.lists.proofs.Bools.{by-bool, true-false, and-intro, and-left, and-right, or-cases, or-right, not-intro, not-elim}
@@ -21,8 +21,9 @@ use Rattle.unfolding.specs.inner.Started.{Started}
 use Rattle.unfolding.proofs.Chains.{component-at}
 use Rattle.unfolding.proofs.Starting.{started-none, started-more, started-other, started-onward, started-own}
 use Rattle.bits.specs.inner.Sets.{has, ByteAt, Subset}
-use Rattle.bits.proofs.Digits.{zero-has, full-has}
-use Rattle.chains.specs.inner.Subsets.{Setting, AtPlaces, SubsetTable, RowAfter, TableAfter, Followers, PlaceOf, Power, Entered, Tested}
+use Rattle.bits.proofs.Digits.{zero-has}
+use Rattle.chains.proofs.Places.{full-places, full-small}
+use Rattle.chains.specs.inner.Subsets.{Setting, AtPlaces, SubsetTable, RowAfter, TableAfter, Followers, PlaceOf, Power, Entered, Filled, Tested}
 
 module _ (P : Program) (rows atoms : List ℕ) (k : ℕ) (K : Setting P rows atoms k) where
   abbrev atom : ℕ → ℕ
@@ -48,18 +49,38 @@ module _ (P : Program) (rows atoms : List ℕ) (k : ℕ) (K : Setting P rows ato
         );
       }
 
-  -- An entry of the atom at place i.
-  module _ (old new s : List ℕ) (x i after size : ℕ) (low : i < k) (is : getD atoms i 0 ≡ x) (F : Followers rows atoms k x after) (N : Power k size)
-      (A : TableAfter old size i after new) (T : SubsetTable P atoms k old s) where
-    follows : (q : ℕ) → q < k → edge P x (atom q) ≡ true → has after q ≡ true
+  -- The places that an atom has edges to.
+  module _ (x after : ℕ) (F : Followers rows atoms k x after) where
+    pub follows : (q : ℕ) → q < k → edge P x (atom q) ≡ true → has after q ≡ true
     follows q l e = F .members q ∙ and-intro (lt-ltb q k l) (K .edges (atom q) (K .low q l) x ∙ e)
 
-    followed : (q : ℕ) → has after q ≡ true → (q < k) × (edge P x (atom q) ≡ true)
+    pub followed : (q : ℕ) → has after q ≡ true → (q < k) × (edge P x (atom q) ≡ true)
     followed q t =
         let u = sym (F .members q) ∙ t in
         let l = ltb-true q k (and-left (ltb q k) (has (getD rows (atom q) 0) x) u) in
         (l, sym (K .edges (atom q) (K .low q l) x) ∙ and-right (ltb q k) (has (getD rows (atom q) 0) x) u)
 
+  -- A set without the place of x has its other atoms.
+  module _ (S W i x : ℕ) (low : i < k) (is : getD atoms i 0 ≡ x) (without : (q : ℕ) → has W q ≡ (has S q && not (eqb q i))) where
+    pub fewer-atoms : (b : ℕ) → AtPlaces atoms k W b → AtPlaces atoms k S b × (b ≡ x → ⊥)
+    fewer-atoms b u =
+        let o = sym (without (u .0)) ∙ u .3 in (
+          (u .0, u .1, u .2, and-left (has S (u .0)) (not (eqb (u .0) i)) o),
+          λ f. true-false (eq-eqb (u .0) i (K .apart (u .0) i (u .1) low (u .2 ∙ (f ∙ sym is)))) (not-elim (and-right (has S (u .0)) (not (eqb (u .0) i)) o)),
+        )
+
+    pub other-atoms : (b : ℕ) → AtPlaces atoms k S b → (b ≡ x → ⊥) → AtPlaces atoms k W b
+    other-atoms b u ne = (u .0, u .1, u .2, without (u .0) ∙ and-intro (u .3) (not-intro (ne-eqb (u .0) i (λ f. ne (sym (u .2) ∙ (ap atom f ∙ is))))))
+
+  -- A chain of the component lies in the set of all places.
+  pub whole-atoms : (size : ℕ) → Power k size → (p : ℕ) → p < k → (w : List ℕ) → Chain P (atom p ∷ w) → (y : ℕ) → List·Memᴰ y (atom p ∷ w) → AtPlaces atoms k (size - 1) y
+  whole-atoms size N p m w C y n =
+      let u = K .whole p m y (component-at P (atom p ∷ w) C (atom p) y (List·Memᴰ·head refl) n) in
+      (u .0, u .1, u .2, full-places k size N (u .0) ∙ lt-ltb (u .0) k (u .1))
+
+  -- An entry of the atom at place i.
+  module _ (old new s : List ℕ) (x i after size : ℕ) (low : i < k) (is : getD atoms i 0 ≡ x) (F : Followers rows atoms k x after) (N : Power k size)
+      (A : TableAfter old size i after new) (T : SubsetTable P atoms k old s) where
     x-joined : (q : ℕ) → q < k → sameComponent P x (atom q) ≡ true
     x-joined q l = subst (λ y. sameComponent P y (atom q) ≡ true) is (K .joined i q low l)
 
@@ -73,36 +94,22 @@ module _ (P : Program) (rows atoms : List ℕ) (k : ℕ) (K : Setting P rows ato
       w-low : W < 2 ^ k
       w-low = let f = R .falls in omega arith
 
-      w-out : (q : ℕ) → has W q ≡ true → (has S q ≡ true) × (q ≡ i → ⊥)
-      w-out q t =
-          let u = sym (R .without q) ∙ t in
-          (and-left (has S q) (not (eqb q i)) u, λ e. true-false (eq-eqb q i e) (not-elim (and-right (has S q) (not (eqb q i)) u)))
-
-      w-in : (q : ℕ) → has S q ≡ true → (q ≡ i → ⊥) → has W q ≡ true
-      w-in q t ne = R .without q ∙ and-intro t (not-intro (ne-eqb q i ne))
-
       -- At place i itself.
       module _ (e : has S i ≡ true) where
-        less : (b : ℕ) → AtPlaces atoms k W b → AtPlaces atoms k S b × (b ≡ x → ⊥)
-        less b u = let o = w-out (u .0) (u .3) in ((u .0, u .1, u .2, o .0), λ f. o .1 (K .apart (u .0) i (u .1) low (u .2 ∙ (f ∙ sym is))))
-
-        more : (b : ℕ) → AtPlaces atoms k S b → (b ≡ x → ⊥) → AtPlaces atoms k W b
-        more b u ne = (u .0, u .1, u .2, w-in (u .0) (u .3) (λ f. ne (sym (u .2) ∙ (ap atom f ∙ is))))
-
         own-found : has (getD new S 0) i ≡ true → Started P (x ∷ s) (AtPlaces atoms k S) x
         own-found t =
             ⊎-elim (λ u. started-more P (K .formed) x s (AtPlaces atoms k S) x (subst (Started P s (AtPlaces atoms k S)) is (T .right S l i low e .0 u)))
             (λ u. let c = and-right (has S i) (R .covered) (and-right (eqb i i) (has S i && R .covered) u) in
-            started-own P (K .formed) x s (AtPlaces atoms k S) (AtPlaces atoms k W) more
+            started-own P (K .formed) x s (AtPlaces atoms k S) (AtPlaces atoms k W) (other-atoms S W i x low is (R .without))
             (λ b g h u. subst (Started P s (AtPlaces atoms k W)) (u .2)
-            (T .right W w-low (u .0) (u .1) (u .3) .0 (R .asked e .0 c (u .0) (follows (u .0) (u .1) (subst (λ y. edge P x y ≡ true) (sym (u .2)) g)) (u .3)))))
+            (T .right W w-low (u .0) (u .1) (u .3) .0 (R .asked e .0 c (u .0) (follows x after F (u .0) (u .1) (subst (λ y. edge P x y ≡ true) (sym (u .2)) g)) (u .3)))))
             (or-cases (has (getD old S 0) i) (eqb i i && (has S i && R .covered)) (sym (R .members i) ∙ t))
 
         own-in : Started P (x ∷ s) (AtPlaces atoms k S) x → has (getD new S 0) i ≡ true
         own-in D =
-            let c = R .asked e .1 (λ q g h. let f = followed q g in
+            let c = R .asked e .1 (λ q g h. let f = followed x after F q g in
             T .right W w-low q (f .0) h .1
-            (started-onward P (K .formed) x s (AtPlaces atoms k S) (AtPlaces atoms k W) (subst (λ y. y < P .atoms) is (K .low i low)) (i, low, is, e) less D (atom q) (f .1) (x-joined q (f .0)))) in
+            (started-onward P (K .formed) x s (AtPlaces atoms k S) (AtPlaces atoms k W) (subst (λ y. y < P .atoms) is (K .low i low)) (i, low, is, e) (fewer-atoms S W i x low is (R .without)) D (atom q) (f .1) (x-joined q (f .0)))) in
             R .members i ∙ or-right (has (getD old S 0) i) (and-intro (eq-eqb i i refl) (and-intro e c))
 
       -- At another place.
@@ -139,28 +146,29 @@ module _ (rows atoms : List ℕ) (k x p : ℕ) (N : PlaceOf atoms k x p) where
       record { long = A .long; turns = λ P s K T. table-own P rows atoms k K old new s x p after size l (N .found l) F E A T }
 
   pub entered-other : (old : List ℕ) → k ≤ p → Entered rows atoms k x old old
-  entered-other old l = record { long = refl; turns = λ P s K T. table-other P rows atoms k K old s x (N .missing l) T }
+  entered-other old l = record { long = refl; turns = λ P s K T. table-other P rows atoms k K old s x (N .absent l) T }
 
--- The entries from i on are read.
-pub record Reading (rows atoms : List ℕ) (k : ℕ) (q : List ℕ) (i : ℕ) (sets : List ℕ) : Type 0 where
+-- The entries from i on are read, of those from a place on.
+pub record Reading (rows atoms : List ℕ) (k : ℕ) (q : List ℕ) (from i : ℕ) (sets : List ℕ) : Type 0 where
   pub long : length sets ≡ 1024
-  pub start : 3 ≤ i
+  pub start : from ≤ i
   pub inside : i ≤ length q
   pub table : (P : Program) → Setting P rows atoms k → SubsetTable P atoms k sets (drop i q)
 
 module _ (rows atoms : List ℕ) (k : ℕ) (few : k ≤ 10) (q : List ℕ) where
-  pub reading-start : 3 ≤ length q → Reading rows atoms k q (length q) (replicate 1024 0)
-  reading-start l =
-      record {
+  pub reading-start : (from : ℕ) (sets : List ℕ) → sets ≡ replicate 1024 0 → from ≤ length q → Reading rows atoms k q from (length q) sets
+  reading-start from sets blank l =
+      rw blank
+      (record {
         long = length-replicate {A = ℕ} 1024 0;
         start = l;
         inside = omega arith;
         table = λ P K. subst (SubsetTable P atoms k (replicate 1024 0)) (sym (drop-length q)) (table-start P rows atoms k K (replicate 1024 0)
             (λ S m. getD-replicate {A = ℕ} 1024 S 0 0 (let e = pow-mono {i = k} {j = 10} few in omega arith)));
-      }
+      })
 
-  pub reading-turn : (i x : ℕ) (old new : List ℕ) → Reading rows atoms k q i old → 3 < i → ByteAt q (i - 1) x → Entered rows atoms k x old new → Reading rows atoms k q (i - 1) new
-  reading-turn i x old new R l B E =
+  pub reading-turn : (from i x : ℕ) (old new : List ℕ) → Reading rows atoms k q from i old → from < i → ByteAt q (i - 1) x → Entered rows atoms k x old new → Reading rows atoms k q from (i - 1) new
+  reading-turn from i x old new R l B E =
       let h = R .inside in
       record {
         long = E .long ∙ R .long;
@@ -170,40 +178,39 @@ module _ (rows atoms : List ℕ) (k : ℕ) (few : k ≤ 10) (q : List ℕ) where
             (E .turns P (drop i q) K (R .table P K));
       }
 
-  pub reading-end : (i size : ℕ) (sets : List ℕ) (b : Bool) → Reading rows atoms k q i sets → i ≤ 3 → Power k size → Subset (size - 1) (getD sets (size - 1) 0) b → Tested rows atoms k (drop 3 q) b
-  reading-end i size sets b R l N S =
+  pub reading-end : (from i : ℕ) (sets : List ℕ) → Reading rows atoms k q from i sets → i ≤ from → Filled rows atoms k (drop from q) sets
+  reading-end from i sets R l =
+      let h = R .start in
+      record { long = R .long; table = λ P K. subst (λ j. SubsetTable P atoms k sets (drop j q)) (let e : i ≡ from = omega arith in e) (R .table P K) }
+
+-- The row of the whole component says whether all its chains are found.
+module _ (rows atoms : List ℕ) (k : ℕ) (s : List ℕ) where
+  pub filled-tested : (size : ℕ) (sets : List ℕ) (b : Bool) → Filled rows atoms k s sets → Power k size → Subset (size - 1) (getD sets (size - 1) 0) b → Tested rows atoms k s b
+  filled-tested size sets b F N S =
       record { is = λ P K. (found P K, all-found P K) }
     where
-      all-in : (p : ℕ) → has (size - 1) p ≡ ltb p k
-      all-in p = ap (λ n. has (n - 1) p) (N .is) ∙ full-has k p
-
-      full-low : size - 1 < 2 ^ k
-      full-low = let e = N .is in let h = pow-pos k in omega arith
-
-      table : (P : Program) → Setting P rows atoms k → SubsetTable P atoms k sets (drop 3 q)
-      table P K = subst (λ j. SubsetTable P atoms k sets (drop j q)) (let h = R .start in let e : i ≡ 3 = omega arith in e) (R .table P K)
-
-      found : (P : Program) → Setting P rows atoms k → b ≡ true → (p : ℕ) → p < k → (w : List ℕ) → Chain P (getD atoms p 0 ∷ w) → Sublistᴰ (getD atoms p 0 ∷ w) (drop 3 q)
+      found : (P : Program) → Setting P rows atoms k → b ≡ true → (p : ℕ) → p < k → (w : List ℕ) → Chain P (getD atoms p 0 ∷ w) → Sublistᴰ (getD atoms p 0 ∷ w) s
       found P K t p m w C =
-          let here = all-in p ∙ lt-ltb p k m in
-          table P K .right (size - 1) full-low p m here .0 (S .inside t p here) w C
-          (λ y n. let u = K .whole p m y (component-at P (getD atoms p 0 ∷ w) C (getD atoms p 0) y (List·Memᴰ·head refl) n) in
-          (u .0, u .1, u .2, all-in (u .0) ∙ lt-ltb (u .0) k (u .1)))
+          let here = full-places k size N p ∙ lt-ltb p k m in
+          F .table P K .right (size - 1) (full-small k size N) p m here .0 (S .inside t p here) w C
+          (whole-atoms P rows atoms k K size N p m w C)
 
-      all-found : (P : Program) → Setting P rows atoms k → ((p : ℕ) → p < k → (w : List ℕ) → Chain P (getD atoms p 0 ∷ w) → Sublistᴰ (getD atoms p 0 ∷ w) (drop 3 q)) → b ≡ true
+      all-found : (P : Program) → Setting P rows atoms k → ((p : ℕ) → p < k → (w : List ℕ) → Chain P (getD atoms p 0 ∷ w) → Sublistᴰ (getD atoms p 0 ∷ w) s) → b ≡ true
       all-found P K h =
-          S .all-inside (λ p t. let m = ltb-true p k (sym (all-in p) ∙ t) in table P K .right (size - 1) full-low p m t .1 (λ w C _. h p m w C))
+          S .all-inside (λ p t. let m = ltb-true p k (sym (full-places k size N p) ∙ t) in F .table P K .right (size - 1) (full-small k size N) p m t .1 (λ w C _. h p m w C))
 
--- What the code asks on the way.
-pub entry-low : (q : List ℕ) (j x : ℕ) → below 64 (drop 3 q) ≡ true → 3 ≤ j → j < length q → ByteAt q j x → x < 64
-entry-low q j x h l m B =
+-- What the code asks on the way: an entry is an atom.
+pub reading-low : (rows atoms : List ℕ) (k : ℕ) (q : List ℕ) (from i x : ℕ) (sets : List ℕ) → Reading rows atoms k q from i sets → 3 ≤ from → from < i → below 64 (drop 3 q) ≡ true → ByteAt q (i - 1) x → x < 64
+reading-low rows atoms k q from i x sets R few l h B =
+    let n = R .inside in
+    let j = i - 1 in
     subst (λ y. y < 64) (sym (B .is))
-    (below-at 64 (drop j q) (below-in 64 (drop j q) (λ a n. below-at 64 (drop 3 q) h a (mem-sublist later n))) (getD q j 0) (subst (List·Memᴰ (getD q j 0)) (sym (drop-cons q j 0 m)) (List·Memᴰ·head refl)))
+    (below-at 64 (drop j q) (below-in 64 (drop j q) (λ a n. below-at 64 (drop 3 q) h a (mem-sublist later n))) (getD q j 0) (subst (List·Memᴰ (getD q j 0)) (sym (drop-cons q j 0 (omega arith))) (List·Memᴰ·head refl)))
   where
     shorter : (k : ℕ) (l : List ℕ) → Sublistᴰ (drop k l) l
     shorter zero l = Sublistᴰ·refl l
     shorter (suc k) [] = Sublistᴰ·refl []
     shorter (suc k) (y ∷ l) = Sublistᴰ·cons (shorter k l)
 
-    later : Sublistᴰ (drop j q) (drop 3 q)
-    later = subst (λ d. Sublistᴰ d (drop 3 q)) (drop-drop (j - 3) 3 q ∙ ap (λ i. drop i q) (let e : 3 + (j - 3) ≡ j = omega arith in e)) (shorter (j - 3) (drop 3 q))
+    later : Sublistᴰ (drop (i - 1) q) (drop 3 q)
+    later = subst (λ d. Sublistᴰ d (drop 3 q)) (drop-drop (i - 1 - 3) 3 q ∙ ap (λ i. drop i q) (let e : 3 + (i - 1 - 3) ≡ i - 1 = omega arith in e)) (shorter (i - 1 - 3) (drop 3 q))

@@ -13,12 +13,12 @@ use bits::without;
 ghost use mathlib.Core.Path.{_≡_};
 ghost use mathlib.Core.Bool.{true};
 ghost use Prim.Native.Nat.{_≤_, _<_};
-ghost use lib.ListN.{length, getD, drop};
+ghost use lib.ListN.{length, getD, drop, replicate};
 ghost use Rattle.lists.specs.Lists.{below};
 ghost use Rattle.bits.specs.inner.Sets.{has, Gathered};
 ghost use Rattle.bits.specs.inner.Listed.{Low};
 ghost use Rattle.bits.specs.inner.Visited.{listed};
-ghost use Rattle.chains.specs.inner.Subsets.{RowAfter, NextWith, TableAfter, Followers, PlaceOf, Power, Entered, Tested, SetTested, Small, PassesBy};
+ghost use Rattle.chains.specs.inner.Subsets.{RowAfter, NextWith, TableAfter, Followers, PlaceOf, Power, Entered, Filled, Tested, SetTested, Small, PassesBy};
 
 // The row of a set with i after an entry at place i, which has edges to the places `after`.
 fn row_after(sets: &[u64; 1024], set: usize, i: usize, after: u64) -> u64
@@ -34,7 +34,7 @@ fn row_after(sets: &[u64; 1024], set: usize, i: usize, after: u64) -> u64
 }
 
 // How many sets of k places there are.
-fn power(k: usize) -> usize
+pub fn power(k: usize) -> usize
     requires { ⌜ k ≤ 10 ⌝ }
     ensures { λ r. ⌜ Power k r ⌝ }
 {
@@ -70,7 +70,7 @@ fn leads(rows: &[u64; 64], x: usize, a: usize) -> bool
 }
 
 // The places, among the first k atoms, that x has edges to.
-fn followers(rows: &[u64; 64], atoms: &[u8; 16], k: usize, x: usize) -> u64
+pub fn followers(rows: &[u64; 64], atoms: &[u8; 16], k: usize, x: usize) -> u64
     requires { ⌜ (k ≤ 16) × Low (now atoms) k × (x < 64) ⌝ }
     ensures { λ r. ⌜ Followers (now (rows .entry)) (now (atoms .entry)) k x r ⌝ }
 {
@@ -85,7 +85,7 @@ fn followers(rows: &[u64; 64], atoms: &[u8; 16], k: usize, x: usize) -> u64
 }
 
 // The place of x among the first k atoms, or k.
-fn place_of(atoms: &[u8; 16], k: usize, x: usize) -> usize
+pub fn place_of(atoms: &[u8; 16], k: usize, x: usize) -> usize
     requires { ⌜ k ≤ 16 ⌝ }
     ensures { λ r. ⌜ PlaceOf (now (atoms .entry)) k x r ⌝ }
 {
@@ -111,17 +111,32 @@ fn enter(sets: &mut [u64; 1024], rows: &[u64; 64], atoms: &[u8; 16], k: usize, x
     }
 }
 
+// Fills an empty table for a component, the first k atoms, by the entries from a position of the sequence on.
+pub fn fill(
+    sets: &mut [u64; 1024],
+    rows: &[u64; 64],
+    atoms: &[u8; 16],
+    k: usize,
+    q: &[u8],
+    from: usize,
+)
+    requires { ⌜ (now sets ≡ replicate 1024 0) × (k ≤ 10) × Low (now atoms) k × (3 ≤ from) × (from ≤ length (now q)) × (below 64 (drop 3 (now q)) ≡ true) ⌝ }
+    ensures { λ r. ⌜ Filled (now (rows .entry)) (now (atoms .entry)) k (drop from (now (q .entry))) (now (sets .exit)) ⌝ }
+{
+    let mut i = q.len();
+    while from < i {
+        i -= 1;
+        enter(sets, rows, atoms, k, byte_at(q, i));
+    }
+}
+
 // Is every chain of a component, the first k atoms, found in the sequence?
 fn chains_found(rows: &[u64; 64], atoms: &[u8; 16], k: usize, q: &[u8]) -> bool
     requires { ⌜ (k ≤ 10) × Low (now atoms) k × (3 ≤ length (now q)) × (below 64 (drop 3 (now q)) ≡ true) ⌝ }
     ensures { λ r. ⌜ Tested (now (rows .entry)) (now (atoms .entry)) k (drop 3 (now (q .entry))) r ⌝ }
 {
     let mut sets = [0u64; 1024];
-    let mut i = q.len();
-    while 3 < i {
-        i -= 1;
-        enter(&mut sets, rows, atoms, k, byte_at(q, i));
-    }
+    fill(&mut sets, rows, atoms, k, q, 3);
     let full = power(k) - 1;
     subset(full as u64, sets[full])
 }

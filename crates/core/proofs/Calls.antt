@@ -14,11 +14,11 @@ use Rattle.sheet.specs.Format.{atomsByte, recordsByte, complete, kindPasses, li
 use Rattle.sheet.specs.declared.Limits.{Limits}
 use Rattle.sheet.proofs.Records.{then-zero, then-refused}
 use Rattle.core.specs.Outcome.{Outcome, refused, answered, outcome, filled}
-use Rattle.core.specs.Outputs.{componentsOutput, defaultOutput, lparseOutput, unfoldedOutput, clausesOutput}
+use Rattle.core.specs.Outputs.{componentsOutput, defaultOutput, lparseOutput, missingOutput, unfoldedOutput, clausesOutput}
 use Rattle.core.specs.Questions.{question1, question2, question3, question13, question7, question8, question9, readQuestions, testQuestions}
-use Rattle.core.specs.Questions.{bodyQuestions, componentsQuestions, defaultQuestions, lparseQuestions, unfoldedQuestions, clausesQuestions, countQuestions}
+use Rattle.core.specs.Questions.{bodyQuestions, componentsQuestions, defaultQuestions, lparseQuestions, missingQuestions, unfoldedQuestions, clausesQuestions, countQuestions}
 use Rattle.core.specs.Promises.{readOutcome, ReadPromise, bodyOutcome, BodyPromise, componentsOutcome, ComponentsPromise, defaultOutcome, DefaultPromise, lparseOutcome, LparsePromise}
-use Rattle.core.specs.Promises.{testOutcome, TestPromise, unfoldedOutcome, UnfoldedPromise, clausesOutcome, ClausesPromise, countOutcome, CountPromise}
+use Rattle.core.specs.Promises.{testOutcome, TestPromise, missingOutcome, MissingPromise, unfoldedOutcome, UnfoldedPromise, clausesOutcome, ClausesPromise, countOutcome, CountPromise}
 use Rattle.core.specs.Calls.{Call, Buffer, nothing, unsigned, signed, over, lent, values, written, Promised}
 use Rattle.core.specs.Calls.{recordsAsked, sheetAsked, questions, AllYes, FirstNo}
 use Rattle.core.specs.Calls as call
@@ -104,13 +104,18 @@ test-first L s q =
     first-append (sheetAsked L s) (question8 L s q ∷ question9 s q ∷ [])
     ∙ (ap₂ (λ a b. a then (question8 L s q then b)) (sheet-first L s) (then-none (question9 s q)) ∙ sym (test-asked L s q))
 
-room-first : (L : Limits) (s q : List ℕ) (k : ℕ) → first (sheetAsked L s ++ (question8 L s q ∷ question9 s q ∷ k ∷ [])) ≡ testQuestions L s q then k
+-- Question 8 and two more behind those about the sheet.
+three-first : (L : Limits) (s q : List ℕ) (j k : ℕ)
+    → first (sheetAsked L s ++ (question8 L s q ∷ j ∷ k ∷ [])) ≡ readQuestions L s then question8 L s q then j then k
 unfolding first
+three-first L s q j k =
+    first-append (sheetAsked L s) (question8 L s q ∷ j ∷ k ∷ []) ∙ ap₂ (λ a b. a then question8 L s q then j then b) (sheet-first L s) (then-none k)
+
+room-first : (L : Limits) (s q : List ℕ) (k : ℕ) → first (sheetAsked L s ++ (question8 L s q ∷ question9 s q ∷ k ∷ [])) ≡ testQuestions L s q then k
 room-first L s q k =
-    first-append (sheetAsked L s) (question8 L s q ∷ question9 s q ∷ k ∷ [])
-    ∙ (ap₂ (λ a b. a then (question8 L s q then (question9 s q then b))) (sheet-first L s) (then-none k)
+    three-first L s q (question9 s q) k
     ∙ sym (ap (λ t. t then k) (test-asked L s q) ∙ (then-assoc (readQuestions L s) (question8 L s q then question9 s q) k
-    ∙ ap (λ r. readQuestions L s then r) (then-assoc (question8 L s q) (question9 s q) k))))
+    ∙ ap (λ r. readQuestions L s then r) (then-assoc (question8 L s q) (question9 s q) k)))
 
 -- A call follows its questions: its outcome is that of the first no, and it leaves the buffer so.
 unfoldable pub left : Outcome → Call → Buffer
@@ -195,6 +200,13 @@ module _ (L : Limits) (s : List ℕ) (o : Outcome) (b : Buffer) where
         follows-filled L (call.lparse s old) o b (lparseQuestions L (length old) s) (one-first L s _)
         unsigned (lparseOutput s) old new refl refl e f n
 
+    pub missing-follows : (q : List ℕ) → o ≡ missingOutcome L (length old) s q → new ≡ filled (missingOutcome L (length old) s q) (missingOutput s q) old
+        → Follows L (call.missing s q old) o b
+    unfolding questions values lent written missingOutcome
+    missing-follows q e f =
+        follows-filled L (call.missing s q old) o b (missingQuestions L (length old) s q) (three-first L s q _ _)
+        unsigned (missingOutput s q) old new refl refl e f n
+
     pub unfolded-follows : (q : List ℕ) → o ≡ unfoldedOutcome L (length old) s q → new ≡ filled (unfoldedOutcome L (length old) s q) (unfoldedOutput s q) old
         → Follows L (call.unfolded s q old) o b
     unfolding questions values lent written unfoldedOutcome
@@ -211,7 +223,7 @@ module _ (L : Limits) (s : List ℕ) (o : Outcome) (b : Buffer) where
 
 -- The promises of the operations.
 promised-follows : (L : Limits) (c : Call) (o : Outcome) (b : Buffer) → Promised L c o b → Follows L c o b
-unfolding Promised ReadPromise BodyPromise TestPromise CountPromise ComponentsPromise DefaultPromise LparsePromise UnfoldedPromise ClausesPromise
+unfolding Promised ReadPromise BodyPromise TestPromise CountPromise ComponentsPromise DefaultPromise LparsePromise MissingPromise UnfoldedPromise ClausesPromise
 promised-follows L (call.read s) o b (r, P, e, n) = read-follows L s o b n (e ∙ P)
 promised-follows L (call.count s) o b (r, P, e, n) = count-follows L s o b n (e ∙ P)
 promised-follows L (call.body i s) o b (r, P, e, n) = body-follows L s o b n i (e ∙ P)
@@ -219,6 +231,7 @@ promised-follows L (call.components s old) o b (r, new, P, e, n) = components-fo
 promised-follows L (call.default s old) o b (r, new, P, e, n) = default-follows L s o b old new n (e ∙ P .says) (P .leaves)
 promised-follows L (call.lparse s old) o b (r, new, P, e, n) = lparse-follows L s o b old new n (e ∙ P .says) (P .leaves)
 promised-follows L (call.test s q) o b (r, P, e, n) = test-follows L s o b n q (e ∙ P)
+promised-follows L (call.missing s q old) o b (r, new, P, e, n) = missing-follows L s o b old new n q (e ∙ P .says) (P .leaves)
 promised-follows L (call.unfolded s q old) o b (r, new, P, e, n) = unfolded-follows L s o b old new n q (e ∙ P .says) (P .leaves)
 promised-follows L (call.clauses s q old) o b (r, new, P, e, n) = clauses-follows L s o b q old new n (e ∙ P .says) (P .leaves)
 

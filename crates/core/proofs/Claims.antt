@@ -1,6 +1,6 @@
--- A sheet without choice rules is what it was, what is written is no longer than it was, and lparse text fits.
+-- A sheet without choice rules is what it was, what is written is no longer than it was, lparse text fits, and so does a missing chain.
 use mathlib.Core.Bool.{_&&_, or-false}
-use mathlib.Core.List.{List, [], _∷_, map, Forall₂}
+use mathlib.Core.List.{List, [], _∷_, map, Forall₂, cons≢nil}
 use mathlib.Core.Path.{_≡_, refl, sym, _∙_, subst}
 use Prim.Native.Nat.{ℕ, _+_, _≤_}
 use native.Mathlib.Omega.{arith}
@@ -10,34 +10,41 @@ use lib.IntN.{ℤ}
 use lib.ListN.{length, take}
 use Rattle.lists.specs.Lists.{any, filter, member, range}
 use Rattle.lists.proofs.Bools.{by-bool, and-left}
-use Rattle.lists.proofs.Members.{any-filter, any-map, filter-cong}
+use Rattle.lists.proofs.Members.{all-at, any-filter, any-map, filter-cong}
 use Rattle.asp.specs.Program.{Rule}
+use Rattle.unfolding.specs.Graph.{component}
+use Rattle.unfolding.specs.Chain.{Chain}
+use Rattle.unfolding.specs.Missing.{missingChain}
+use Rattle.unfolding.specs.Default.{members}
 use Rattle.unfolding.specs.Unfolded.{Unfolded, unfolded, words}
 use Rattle.unfolding.specs.Decoded.{readUnfolded, nameless}
 use Rattle.unfolding.specs.Clauses.{clauses, variables, signedWords}
 use Rattle.unfolding.specs.Faithful.{clausesOf, variablesOf}
 use Rattle.unfolding.specs.Shortened.{unshortened, Shortens, Shortened}
+use Rattle.unfolding.proofs.Default.{chain-few, chain-named}
 use Rattle.unfolding.proofs.Shortened.{nameless-shortens}
-use Rattle.unfolding.proofs.Claims.{unfolded-is-shortened}
+use Rattle.unfolding.proofs.Claims.{missing-is-there, missing-is-shortest, unfolded-is-shortened}
 use Rattle.sheet.specs.Questions.{ask}
 use Rattle.sheet.specs.Format.{atomsByte, recordsByte, limited}
 use Rattle.sheet.specs.Sequence.{entries}
 use Rattle.sheet.specs.Sheet.{Record, ruleIn, records, choices, programOf, program}
 use Rattle.sheet.specs.declared.Limits.{Limits}
 use Rattle.sheet.proofs.Walk.{ask-passed, records-sound, records-ordered, records-few}
+use Rattle.components.specs.Limit.{componentsFit}
 use Rattle.choice.specs.Claims.{plainProgram}
 use Rattle.choice.proofs.Expanded.{without-choices}
 use Rattle.choice.proofs.Unique.{faithful-is-old}
 use Rattle.counting.specs.DecisionAtoms.{asksFor, decisionAtoms}
 use Rattle.lparse_format.proofs.Longest.{text-short}
 use Rattle.core.specs.Outcome.{answered}
-use Rattle.core.specs.Outputs.{lparseOutput, unfoldedOutput, clausesOutput, clauseNumbers}
+use Rattle.core.specs.Outputs.{lparseOutput, missingOutput, unfoldedOutput, clausesOutput, clauseNumbers}
 use Rattle.core.specs.Questions.{question3, question13}
 use Rattle.core.specs.Calls.{unsigned, signed, values, Service}
 use Rattle.core.specs.Calls as call
 use Rattle.core.specs.Demands.{Demand1}
-use Rattle.core.specs.Claims.{negatedAtoms, OldAnswersStay, OutputsShorten, LparseFits}
+use Rattle.core.specs.Claims.{negatedAtoms, OldAnswersStay, OutputsShorten, LparseFits, MissingFits}
 use Rattle.core.proofs.Chains.{read-passed}
+use Rattle.core.proofs.Testing.{program-accepted}
 use Rattle.core.proofs.Demands.{succeeded, demand-2-of}
 
 -- What records ask for where none is a choice rule.
@@ -116,3 +123,18 @@ unfolding lparseOutput program programOf
 lparse-fits L a r s z =
     let P = read-passed L s z in
     text-short (atomsByte s) (records s) (records-sound L s (P .form)) (records-ordered L s (P .form)) (omega (arith, P .atoms)) (omega (arith, records-few L s (P .form)))
+
+pub missing-fits : MissingFits
+unfolding missingOutput componentsFit
+missing-fits L s q z = short (missingChain (program s) (entries q)) refl
+  where
+    short : (w : List ℕ) → w ≡ missingChain (program s) (entries q) → length w ≤ L .component
+    short [] e = omega arith
+    short (a ∷ w) e =
+        let P = program s in
+        let wf = program-accepted L s z in
+        let no = missing-is-there P wf (entries q) .0 (λ n. cons≢nil (e ∙ n)) in
+        let C = subst (Chain P) (sym e) (missing-is-shortest P wf (entries q) no .chain) in
+        let few = chain-few P wf a w C in
+        let fits = all-at (λ c. leb (length (members P c)) (L .component)) (range 0 (P .atoms)) (read-passed L s z .components) (component P a) (chain-named P wf a w C) in
+        omega (arith, leb-true (length (members P (component P a))) (L .component) fits)

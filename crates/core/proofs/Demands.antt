@@ -1,6 +1,7 @@
--- Demands 2 and 3, and what a solver reads, of every service that meets demand 1.
-use mathlib.Core.Bool.{true}
+-- Demands 2 and 3, what a solver reads, and what missing chains are, of every service that meets demand 1.
+use mathlib.Core.Bool.{Bool, true, false, not}
 use mathlib.Core.List.{List, [], _∷_, _++_}
+use mathlib.Core.Logic.{_↔_}
 use mathlib.Core.Path.{_≡_, refl, sym, _∙_, ap, ap₂, subst}
 use Prim.Native.Nat.{ℕ}
 use native.Mathlib.Omega.{arith}
@@ -8,40 +9,41 @@ use lib.Dec.{leb}
 use lib.IntN.{ℤ}
 use lib.ListN.{length, take, drop}
 use lib.Seq.{take-append-seam}
-use Rattle.lists.proofs.Bools.{by-bool}
+use Rattle.lists.proofs.Bools.{by-bool, true-false, is-false, is-true, not-intro, not-elim}
 use Rattle.asp.specs.Program.{wellFormed}
 use Rattle.asp.specs.Count.{stableModels, verdict}
 use Rattle.asp.proofs.Claims.{stable-is-answer-set, stable-are-listed, count-is-answer-sets}
 use Rattle.unfolding.specs.Chain.{passes}
+use Rattle.unfolding.specs.Missing.{ShortestMissing}
 use Rattle.unfolding.specs.Unfolded.{NoPositiveLoop}
 use Rattle.unfolding.specs.Decoded.{readUnfolded}
 use Rattle.unfolding.specs.Clauses.{readWords}
 use Rattle.unfolding.specs.Faithful.{clausesOf, variablesOf}
 use Rattle.unfolding.specs.Claims as claims
 use Rattle.unfolding.proofs.Chains.{passes-iff}
-use Rattle.unfolding.proofs.Claims.{literals-are-numbered, words-are-clauses, words-are-unfolded, words-have-no-loop}
+use Rattle.unfolding.proofs.Claims.{missing-is-shortest, literals-are-numbered, words-are-clauses, words-are-unfolded, words-have-no-loop}
 use Rattle.sheet.specs.Questions.{ask, _then_}
-use Rattle.sheet.specs.Sequence.{entries}
+use Rattle.sheet.specs.Sequence.{entries, sequenceFits}
 use Rattle.sheet.specs.Format.{atomsByte}
 use Rattle.sheet.specs.inner.Walk.{AllSound}
 use Rattle.sheet.specs.Sheet.{records, program}
 use Rattle.sheet.specs.declared.Limits.{Limits}
-use Rattle.sheet.proofs.Records.{then-zero, ask-yes}
-use Rattle.sheet.proofs.Walk.{then-passed, records-sound}
+use Rattle.sheet.proofs.Records.{then-zero, ask-yes, ask-no}
+use Rattle.sheet.proofs.Walk.{ask-passed, then-passed, records-sound}
 use Rattle.choice.specs.Written.{WrittenFaithful}
 use Rattle.choice.proofs.Number.{cuts, cuts-listed, count-written}
 use Rattle.lparse_format.specs.Decoded.{readLparse}
 use Rattle.lparse_format.specs.Meaning.{SameModels}
 use Rattle.lparse_format.proofs.Claims.{lparse-is-read, export-is-faithful}
 use Rattle.core.specs.Outcome.{Outcome, refused, answered, code}
-use Rattle.core.specs.Outputs.{lparseOutput, unfoldedOutput, clausesOutput, clauseNumbers}
+use Rattle.core.specs.Outputs.{lparseOutput, missingOutput, unfoldedOutput, clausesOutput, clauseNumbers}
 use Rattle.core.specs.Questions.{question8, question9, question10, readQuestions}
 use Rattle.core.specs.Calls.{Call, Buffer, unsigned, signed, over, sheetAsked, questions, AllYes, values, written, Service, Promised}
 use Rattle.core.specs.Calls as call
 use Rattle.core.specs.Demands.{Decided, refuses, answers, Demand1, AnswerSetsCounted, UnfoldedWords, ClauseWords, Demand2}
-use Rattle.core.specs.Demands.{Accepted, AsFarAsChains, Numbered, NineIsChains, Demand3, SolverReads, TextForSolvers}
+use Rattle.core.specs.Demands.{Accepted, AsFarAsChains, Numbered, NineIsChains, Demand3, SolverReads, TextForSolvers, MissingChains}
 use Rattle.core.proofs.Calls.{first, first-append, first-yes, yes-first, no-first, sheet-first, test-first, demand-1}
-use Rattle.core.proofs.Chains.{read-passed}
+use Rattle.core.proofs.Chains.{read-passed, ask-low, read-low, then-higher}
 use Rattle.core.proofs.Testing.{program-accepted, both-accepted, test-faithful}
 
 -- A call that is answered: every question is answered by a yes, these are its values, and the buffer holds the output.
@@ -53,6 +55,11 @@ pub record Succeeded (L : Limits) (c : Call) (vs : List ℕ) (b : Buffer) : Type
 decided-answered : (L : Limits) (c : Call) (vs : List ℕ) (b : Buffer) → Decided L c (answered vs) b → Succeeded L c vs b
 decided-answered L c vs b (refuses k F e m) = let z : _≡_ {A = ℕ} 0 1 = cc e in absurd (omega arith)
 decided-answered L c vs b (answers y e m) = record { yeses = y; same = cc e; holds = m }
+
+-- A call whose questions are all answered by a yes is answered.
+decided-passed : (L : Limits) (c : Call) (o : Outcome) (b : Buffer) → Decided L c o b → first (questions L c) ≡ 0 → o ≡ answered (values c)
+decided-passed L c o b (refuses k F e m) z = let p = F .nonzero in let f = no-first (questions L c) k F in absurd (omega arith)
+decided-passed L c o b (answers y e m) z = e
 
 -- A call whose first no is k is refused so, and by no other number.
 decided-refused : (L : Limits) (c : Call) (o : Outcome) (b : Buffer) (k : ℕ) → Decided L c o b → first (questions L c) ≡ k → (k ≡ 0 → ⊥) → o ≡ refused k
@@ -77,24 +84,26 @@ module _ (L : Limits) (s more : List ℕ) (y : AllYes (sheetAsked L s ++ more)) 
   sheet-sound : AllSound (atomsByte s) (records s)
   sheet-sound = records-sound L s (read-passed L s read-accepted .form)
 
--- Where the chain question gets a yes, whatever is asked behind it, testing accepts: a well-formed program and a sequence of its atoms that has every chain.
-module _ (L : Limits) (s q rest : List ℕ) (y : AllYes (sheetAsked L s ++ (question8 L s q ∷ question9 s q ∷ rest))) where
-  eighth : (question8 L s q ≡ 0) × (question9 s q then first rest ≡ 0)
+-- Then question 8, and another, whatever is asked behind it.
+module _ (L : Limits) (s q rest : List ℕ) (k : ℕ) (y : AllYes (sheetAsked L s ++ (question8 L s q ∷ k ∷ rest))) where
+  eighth : (question8 L s q ≡ 0) × (k then first rest ≡ 0)
   unfolding first
-  eighth = then-passed (question8 L s q) (question9 s q then first rest) (parted L s _ y .1)
+  eighth = then-passed (question8 L s q) (k then first rest) (parted L s _ y .1)
 
-  ninth : question9 s q ≡ 0
-  ninth = then-passed (question9 s q) (first rest) (eighth .1) .0
+  next-passed : k ≡ 0
+  next-passed = then-passed k (first rest) (eighth .1) .0
 
+-- Where that is the chain question, testing accepts: a well-formed program and a sequence of its atoms that has every chain.
+module _ (L : Limits) (s q rest : List ℕ) (y : AllYes (sheetAsked L s ++ (question8 L s q ∷ question9 s q ∷ rest))) where
   test-accepts : Accepted L s q
   unfolding first questions
   test-accepts =
       first-yes (questions L (call.test s q))
       (first-append (sheetAsked L s) (question8 L s q ∷ question9 s q ∷ [])
-      ∙ (then-zero (first (sheetAsked L s)) _ (parted L s _ y .0) ∙ (then-zero (question8 L s q) _ (eighth .0) ∙ then-zero (question9 s q) 0 ninth)))
+      ∙ (then-zero (first (sheetAsked L s)) _ (parted L s _ y .0) ∙ (then-zero (question8 L s q) _ (eighth L s q rest _ y .0) ∙ then-zero (question9 s q) 0 (next-passed L s q rest _ y))))
 
   accepted-both : claims.Accepted (program s) (entries q)
-  accepted-both = both-accepted L s q (sym (sheet-first L s) ∙ parted L s _ y .0) (eighth .0) ninth
+  accepted-both = both-accepted L s q (sym (sheet-first L s) ∙ parted L s _ y .0) (eighth L s q rest _ y .0) (next-passed L s q rest _ y)
 
 -- Counting.
 counted-exact : (L : Limits) (s counted : List ℕ) (b : Buffer) → Succeeded L (call.count s) counted b → AnswerSetsCounted (atomsByte s) (program s) counted
@@ -188,33 +197,63 @@ text-read L s old new l K =
 written-faithful : (L : Limits) (s q : List ℕ) → Accepted L s q → WrittenFaithful (atomsByte s) (program s) (entries q)
 written-faithful L s q y = test-faithful L s q (sym (test-first L s q) ∙ yes-first (questions L (call.test s q)) y)
 
--- The chain question in a call that asks `rest` behind it.
-module _ (L : Limits) (s q rest : List ℕ) (c : Call) (is : questions L c ≡ sheetAsked L s ++ (question8 L s q ∷ question9 s q ∷ rest))
-    (other : first rest ≡ 9 → ⊥) (far : AsFarAsChains L s q) where
-  behind : first (questions L c) ≡ question9 s q then first rest
+-- A question behind question 8, in a call that comes so far and asks `rest` behind it.
+module _ (L : Limits) (s q rest : List ℕ) (c : Call) (yes-answer : Bool) (k : ℕ) (is : questions L c ≡ sheetAsked L s ++ (question8 L s q ∷ ask yes-answer k ∷ rest))
+    (far : AsFarAsChains L s q) where
+  behind : first (questions L c) ≡ ask yes-answer k then first rest
   unfolding first
   behind =
       let y = parted L s _ far in
-      ap first is ∙ (first-append (sheetAsked L s) (question8 L s q ∷ question9 s q ∷ rest) ∙ (then-zero (first (sheetAsked L s)) _ (y .0)
+      ap first is ∙ (first-append (sheetAsked L s) (question8 L s q ∷ ask yes-answer k ∷ rest) ∙ (then-zero (first (sheetAsked L s)) _ (y .0)
       ∙ then-zero (question8 L s q) _ (then-passed (question8 L s q) 0 (y .1) .0)))
 
-  nine-is-chains : (S : Service) → Demand1 L S → NineIsChains S c s q
-  unfolding ask _then_
-  nine-is-chains S D o b A =
-      let same = passes-iff (program s) (formed L s _ far) (entries q) in (
-        λ ne. by-bool (passes (program s) (entries q)) (same .0)
-            (λ f. absurd (ne (decided-refused L c o b 9 (D c o b A) (behind ∙ rw f refl) (λ e. omega arith)))),
-        λ found e. other (sym (ask-yes (same .1 found) 9 (first rest)) ∙ (sym behind ∙ decided-number L c b 9 (subst (λ o. Decided L c o b) e (D c o b A)))),
-      )
+  -- Its number is answered just when it gets a no, where `rest` does not answer it too.
+  refused-just : (k ≡ 0 → ⊥) → (first rest ≡ k → ⊥) → (S : Service) → Demand1 L S → (o : Outcome) (b : Buffer) → S c o b → (o ≡ refused k) ↔ (yes-answer ≡ false)
+  refused-just some other S D o b A = (
+    λ e. is-false (λ t. other (sym (ask-yes t k (first rest)) ∙ (sym behind ∙ decided-number L c b k (subst (λ o. Decided L c o b) e (D c o b A))))),
+    λ f. decided-refused L c o b k (D c o b A) (behind ∙ ask-no f k (first rest) some) some,
+  )
 
-room-other : {A : Type 0} (output : List A) (room : ℕ) → first (question10 output room ∷ []) ≡ 9 → ⊥
+nine-is-chains : (L : Limits) (s q rest : List ℕ) (c : Call) → questions L c ≡ sheetAsked L s ++ (question8 L s q ∷ question9 s q ∷ rest) → (first rest ≡ 9 → ⊥)
+    → AsFarAsChains L s q → (S : Service) → Demand1 L S → NineIsChains S c s q
+nine-is-chains L s q rest c is other far S D o b A =
+    let same = passes-iff (program s) (formed L s _ far) (entries q) in
+    let nine = refused-just L s q rest c (passes (program s) (entries q)) 9 is far (λ e. omega arith) other S D o b A in
+    (λ ne. same .0 (is-true (λ f. ne (nine .1 f))), λ found e. true-false (same .1 found) (nine .0 e))
+
+room-other : {A : Type 0} (output : List A) (room k : ℕ) → (k ≡ 0 → ⊥) → (k ≡ 10 → ⊥) → first (question10 output room ∷ []) ≡ k → ⊥
 unfolding first ask _then_
-room-other output room e =
-    by-bool (leb (length output) room) (λ t. let z : _≡_ {A = ℕ} 0 9 = rw t at e in omega arith) (λ f. let z : _≡_ {A = ℕ} 10 9 = rw f at e in omega arith)
+room-other output room k some ne e = by-bool (leb (length output) room) (λ t. some (sym (rw t at e))) (λ f. ne (sym (rw f at e)))
 
 none-other : first [] ≡ 9 → ⊥
 unfolding first
 none-other e = omega arith
+
+-- The missing chain.
+missing-shown : (L : Limits) (s q old new : List ℕ) (l : ℕ) → Succeeded L (call.missing s q old) (l ∷ []) (unsigned new)
+    → ShortestMissing (program s) (entries q) (take l new)
+unfolding questions values written missingOutput
+missing-shown L s q old new l K =
+    let front = over-front (missingOutput s q) old new l (cc (K .same)) (cc (K .holds)) in
+    let lacks = ask-passed (not (passes (program s) (entries q))) 14 (λ e. omega arith) (next-passed L s q _ _ (K .yeses)) in
+    subst (ShortestMissing (program s) (entries q)) (sym front) (missing-is-shortest (program s) (formed L s _ (K .yeses)) (entries q) (not-elim lacks))
+
+-- Where 14 is answered, and where testing passes, a call comes as far as the chain question.
+module _ (L : Limits) (s q : List ℕ) where
+  as-far : first (sheetAsked L s) ≡ 0 → question8 L s q ≡ 0 → AsFarAsChains L s q
+  unfolding first
+  as-far z e =
+      first-yes (sheetAsked L s ++ (question8 L s q ∷ [])) (first-append (sheetAsked L s) (question8 L s q ∷ [])
+      ∙ (then-zero (first (sheetAsked L s)) _ z ∙ then-zero (question8 L s q) 0 e))
+
+  fourteen-far : (old : List ℕ) → first (questions L (call.missing s q old)) ≡ 14 → AsFarAsChains L s q
+  unfolding first questions
+  fourteen-far old e =
+      let low = read-low L s in
+      let same = sheet-first L s in
+      let sheet = then-higher (first (sheetAsked L s)) _ 14 (omega arith) (sym (first-append (sheetAsked L s) _) ∙ e) in
+      let sequence = then-higher (question8 L s q) _ 14 (omega (arith, ask-low (sequenceFits L (program s .atoms) q) 8 (omega arith))) (sheet .1) in
+      as-far (sheet .0) (sequence .0)
 
 module _ (L : Limits) (S : Service) (D : Demand1 L S) where
   pub succeeded : (c : Call) (vs : List ℕ) (b : Buffer) → S c (answered vs) b → Succeeded L c vs b
@@ -237,12 +276,40 @@ module _ (L : Limits) (S : Service) (D : Demand1 L S) where
         accepted = λ s q old new l v c A. test-accepts L s q _ (succeeded _ _ _ A .yeses);
         written = λ s q old new l v c A. clauses-numbered L s q old new l v c (succeeded _ _ _ A);
         tested = λ s q far. nine-is-chains L s q [] (call.test s q) refl none-other far S D;
-        unfolds = λ s q old far. nine-is-chains L s q _ (call.unfolded s q old) refl (room-other (unfoldedOutput s q) (length old)) far S D;
-        derives = λ s q old far. nine-is-chains L s q _ (call.clauses s q old) refl (room-other (clausesOutput s q) (length old)) far S D;
+        unfolds = λ s q old far. nine-is-chains L s q _ (call.unfolded s q old) refl (room-other (unfoldedOutput s q) (length old) 9 (λ e. omega arith) (λ e. omega arith)) far S D;
+        derives = λ s q old far. nine-is-chains L s q _ (call.clauses s q old) refl (room-other (clausesOutput s q) (length old) 9 (λ e. omega arith) (λ e. omega arith)) far S D;
       }
 
   pub solvers-of : TextForSolvers S
   solvers-of s old new l A = text-read L s old new l (succeeded _ _ _ A)
+
+  module _ (s q old : List ℕ) (o t : Outcome) (b c : Buffer) (A : S (call.missing s q old) o b) (T : S (call.test s q) t c) where
+    fourteen-just : AsFarAsChains L s q → (o ≡ refused 14) ↔ (not (passes (program s) (entries q)) ≡ false)
+    unfolding questions
+    fourteen-just far =
+        refused-just L s q _ (call.missing s q old) (not (passes (program s) (entries q))) 14 refl far (λ e. omega arith)
+        (room-other (missingOutput s q) (length old) 14 (λ e. omega arith) (λ e. omega arith)) S D o b A
+
+    fourteen-passed : o ≡ refused 14 → t ≡ answered []
+    unfolding first questions values
+    fourteen-passed e =
+        let far = fourteen-far L s q old (decided-number L (call.missing s q old) b 14 (D _ (refused 14) b (subst (λ o. S (call.missing s q old) o b) e A))) in
+        let found = is-true (λ f. true-false (not-intro f) (fourteen-just far .0 e)) in
+        decided-passed L (call.test s q) t c (D _ t c T) (behind L s q [] (call.test s q) (passes (program s) (entries q)) 9 refl far ∙ ask-yes found 9 0)
+
+    passed-fourteen : t ≡ answered [] → o ≡ refused 14
+    unfolding questions
+    passed-fourteen e =
+        let y = succeeded (call.test s q) [] c (subst (λ t. S (call.test s q) t c) e T) .yeses in
+        let found = ask-passed (passes (program s) (entries q)) 9 (λ e. omega arith) (next-passed L s q [] _ y) in
+        fourteen-just (as-far L s q (parted L s _ y .0) (eighth L s q [] _ y .0)) .1 (ap not found)
+
+  pub missing-chains-of : MissingChains S
+  missing-chains-of =
+      record {
+        shortest = λ s q old new l A. missing-shown L s q old new l (succeeded _ _ _ A);
+        fourteen = λ s q old o t b c A T. (fourteen-passed s q old o t b c A T, passed-fourteen s q old o t b c A T);
+      }
 
 -- The demands of the operations.
 pub demand-2 : (L : Limits) → Demand2 L (Promised L)
@@ -253,3 +320,6 @@ demand-3 L = demand-3-of L (Promised L) (demand-1 L)
 
 pub text-for-solvers : (L : Limits) → TextForSolvers (Promised L)
 text-for-solvers L = solvers-of L (Promised L) (demand-1 L)
+
+pub missing-chains : (L : Limits) → MissingChains (Promised L)
+missing-chains L = missing-chains-of L (Promised L) (demand-1 L)

@@ -3,6 +3,7 @@ pub mod Outcomes
 pub mod Calls
 pub mod Asking
 pub mod Exporting
+pub mod Finding
 pub mod Counting
 pub mod Default
 pub mod Reading

@@ -11,10 +11,10 @@ use Rattle.sheet.specs.Questions.{ask}
 use Rattle.sheet.specs.Format.{atomsByte, recordsByte, complete, kindPasses, listsFit, end}
 use Rattle.sheet.specs.declared.Limits.{Limits}
 use Rattle.core.specs.Outcome.{Outcome, fromRead, fromBody, fromWrite, fromTest, fromClauses, fromCount}
-use Rattle.core.specs.Outputs.{componentsOutput, defaultOutput, lparseOutput, unfoldedOutput, clausesOutput, clauseNumbers, bodyPositives, countValues}
-use Rattle.core.specs.Questions.{question1, question2, question3, question13, question7, question8, question9, question10, question11, questionB}
+use Rattle.core.specs.Outputs.{componentsOutput, defaultOutput, lparseOutput, missingOutput, unfoldedOutput, clausesOutput, clauseNumbers, bodyPositives, countValues}
+use Rattle.core.specs.Questions.{question1, question2, question3, question13, question7, question8, question9, question10, question11, question14, questionB}
 use Rattle.core.specs.Promises.{ReadPromise, BodyPromise, ComponentsPromise, DefaultPromise, LparsePromise}
-use Rattle.core.specs.Promises.{TestPromise, UnfoldedPromise, ClausesPromise, CountPromise}
+use Rattle.core.specs.Promises.{TestPromise, MissingPromise, UnfoldedPromise, ClausesPromise, CountPromise}
 use Rattle.core.specs.declared.ReadAnswer.{ReadAnswer}
 use Rattle.core.specs.declared.BodyAnswer.{BodyAnswer}
 use Rattle.core.specs.declared.WriteAnswer.{WriteAnswer}
@@ -22,7 +22,7 @@ use Rattle.core.specs.declared.TestAnswer.{TestAnswer}
 use Rattle.core.specs.declared.ClausesAnswer.{ClausesAnswer}
 use Rattle.core.specs.declared.CountAnswer.{CountAnswer}
 
--- A call of one of the nine operations: s is the sheet, q the sequence, i a record's number, old the buffer that is lent for the output.
+-- A call of one of the ten operations: s is the sheet, q the sequence, i a record's number, old the buffer that is lent for the output.
 pub data Call : Type 0 where
   read : (s : List ℕ) → Call
   body : (i : ℕ) (s : List ℕ) → Call
@@ -30,6 +30,7 @@ pub data Call : Type 0 where
   default : (s old : List ℕ) → Call
   lparse : (s old : List ℕ) → Call
   test : (s q : List ℕ) → Call
+  missing : (s q old : List ℕ) → Call
   unfolded : (s q old : List ℕ) → Call
   clauses : (s q : List ℕ) (old : List ℤ) → Call
   count : (s : List ℕ) → Call
@@ -45,6 +46,7 @@ unfoldable pub lent : Call → Buffer
 lent (components s old) = unsigned old
 lent (default s old) = unsigned old
 lent (lparse s old) = unsigned old
+lent (missing s q old) = unsigned old
 lent (unfolded s q old) = unsigned old
 lent (clauses s q old) = signed old
 lent (read s) = nothing
@@ -69,6 +71,7 @@ questions L (components s old) = sheetAsked L s ++ (question10 (componentsOutput
 questions L (default s old) = sheetAsked L s ++ (question10 (defaultOutput s) (length old) ∷ [])
 questions L (lparse s old) = sheetAsked L s ++ (question10 (lparseOutput s) (length old) ∷ [])
 questions L (test s q) = sheetAsked L s ++ (question8 L s q ∷ question9 s q ∷ [])
+questions L (missing s q old) = sheetAsked L s ++ (question8 L s q ∷ question14 s q ∷ question10 (missingOutput s q) (length old) ∷ [])
 questions L (unfolded s q old) = sheetAsked L s ++ (question8 L s q ∷ question9 s q ∷ question10 (unfoldedOutput s q) (length old) ∷ [])
 questions L (clauses s q old) = sheetAsked L s ++ (question8 L s q ∷ question9 s q ∷ question10 (clausesOutput s q) (length old) ∷ [])
 questions L (count s) = sheetAsked L s ++ (question11 s ∷ [])
@@ -93,6 +96,7 @@ values (components s old) = length (componentsOutput s) ∷ []
 values (default s old) = length (defaultOutput s) ∷ []
 values (lparse s old) = length (lparseOutput s) ∷ []
 values (test s q) = []
+values (missing s q old) = length (missingOutput s q) ∷ []
 values (unfolded s q old) = length (unfoldedOutput s q) ∷ []
 values (clauses s q old) = length (clausesOutput s q) ∷ clauseNumbers s q
 values (count s) = countValues s
@@ -106,6 +110,7 @@ unfoldable pub written : Call → Buffer
 written (components s old) = unsigned (over (componentsOutput s) old)
 written (default s old) = unsigned (over (defaultOutput s) old)
 written (lparse s old) = unsigned (over (lparseOutput s) old)
+written (missing s q old) = unsigned (over (missingOutput s q) old)
 written (unfolded s q old) = unsigned (over (unfoldedOutput s q) old)
 written (clauses s q old) = signed (over (clausesOutput s q) old)
 written (read s) = nothing
@@ -125,6 +130,7 @@ Promised L (components s old) o b = (r : WriteAnswer) × (new : List ℕ) × Com
 Promised L (default s old) o b = (r : WriteAnswer) × (new : List ℕ) × DefaultPromise L s old new r × (o ≡ fromWrite r) × (b ≡ unsigned new)
 Promised L (lparse s old) o b = (r : WriteAnswer) × (new : List ℕ) × LparsePromise L s old new r × (o ≡ fromWrite r) × (b ≡ unsigned new)
 Promised L (test s q) o b = (r : TestAnswer) × TestPromise L s q r × (o ≡ fromTest r) × (b ≡ nothing)
+Promised L (missing s q old) o b = (r : WriteAnswer) × (new : List ℕ) × MissingPromise L s q old new r × (o ≡ fromWrite r) × (b ≡ unsigned new)
 Promised L (unfolded s q old) o b = (r : WriteAnswer) × (new : List ℕ) × UnfoldedPromise L s q old new r × (o ≡ fromWrite r) × (b ≡ unsigned new)
 Promised L (clauses s q old) o b = (r : ClausesAnswer) × (new : List ℤ) × ClausesPromise L s q old new r × (o ≡ fromClauses r) × (b ≡ signed new)
 Promised L (count s) o b = (r : CountAnswer) × CountPromise L s r × (o ≡ fromCount r) × (b ≡ nothing)

@@ -20,7 +20,7 @@ use Rattle.choice.specs.Written.{WrittenFaithful}
 use Rattle.choice.specs.Claims.{plainProgram}
 use Rattle.counting.specs.DecisionAtoms.{decisionAtoms}
 use Rattle.core.specs.Outcome.{answered}
-use Rattle.core.specs.Outputs.{lparseOutput}
+use Rattle.core.specs.Outputs.{lparseOutput, missingOutput}
 use Rattle.core.specs.Questions.{question3, question13, readQuestions}
 use Rattle.core.specs.Calls.{unsigned, signed, Service}
 use Rattle.core.specs.Calls as call
@@ -63,3 +63,7 @@ OutputsShorten = (L : Limits) (S : Service) → Demand1 L S → Shorter S
 -- No lparse text of a sheet that is not refused is longer than 49,088 bytes, where no more than 64 atoms and 128 records are allowed.
 abbrev pub LparseFits : Type 0
 LparseFits = (L : Limits) → L .atoms ≤ 64 → L .records ≤ 128 → (s : List ℕ) → readQuestions L s ≡ 0 → length (lparseOutput s) ≤ 49088
+
+-- No missing chain has more atoms than a component may have.
+abbrev pub MissingFits : Type 0
+MissingFits = (L : Limits) (s q : List ℕ) → readQuestions L s ≡ 0 → length (missingOutput s q) ≤ L .component

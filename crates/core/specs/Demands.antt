@@ -1,4 +1,5 @@
--- The three demands of a service with these limits, and what a solver reads of its lparse text, over the answers that it allows to a call.
+-- The three demands of a service with these limits, what a solver reads of its lparse text, and what its missing chains are, over the answers that it
+-- allows to a call.
 use mathlib.Core.List.{List, [], _∷_, List·Memᴰ, _++_}
 use mathlib.Core.Logic.{_↔_}
 use mathlib.Core.Path.{_≡_}
@@ -9,6 +10,7 @@ use Rattle.asp.specs.Program.{Program, State}
 use Rattle.asp.specs.AnswerSet.{IsAnswerSet}
 use Rattle.asp.specs.Count.{verdict, Enumerates}
 use Rattle.unfolding.specs.Chain.{Passes}
+use Rattle.unfolding.specs.Missing.{ShortestMissing}
 use Rattle.unfolding.specs.Unfolded.{NoPositiveLoop, unfolded}
 use Rattle.unfolding.specs.Decoded.{readUnfolded, nameless}
 use Rattle.unfolding.specs.Clauses.{Literal, Clause, variableOf, readWords}
@@ -108,6 +110,15 @@ pub record SolverReads (s : List ℕ) (E : LparseProgram) : Type 0 where
 -- The text that a call answers as written, its l bytes, read back, is such a program.
 abbrev pub TextForSolvers : Service → Type 0
 TextForSolvers S = (s old new : List ℕ) (l : ℕ) → S (call.lparse s old) (answered (l ∷ [])) (unsigned new) → SolverReads s (readLparse (take l new))
+
+-- The missing chains that a service answers (document 02, W4).
+pub record MissingChains (S : Service) : Type 0 where
+  -- The l bytes written are the shortest chain that is not found in the sequence, and among equals the one whose first differing atom is smallest.
+  pub shortest : (s q old new : List ℕ) (l : ℕ) → S (call.missing s q old) (answered (l ∷ [])) (unsigned new)
+      → ShortestMissing (program s) (entries q) (take l new)
+  -- Whatever the room, 14 is answered just when testing passes.
+  pub fourteen : (s q old : List ℕ) (o t : Outcome) (b c : Buffer) → S (call.missing s q old) o b → S (call.test s q) t c
+      → (o ≡ refused 14) ↔ (t ≡ answered [])
 
 -- Questions 8 and 9 never stop the default sequence.
 abbrev pub DefaultAccepted : Limits → Type 0

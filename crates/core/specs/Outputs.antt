@@ -6,6 +6,7 @@ use lib.ListN.{length}
 use Rattle.lists.specs.Lists.{range}
 use Rattle.asp.specs.Count.{count, verdict}
 use Rattle.unfolding.specs.Graph.{component}
+use Rattle.unfolding.specs.Missing.{missingChain}
 use Rattle.unfolding.specs.Default.{defaultSequence}
 use Rattle.unfolding.specs.Unfolded.{words, unfolded}
 use Rattle.unfolding.specs.Clauses.{signedWords}
@@ -36,6 +37,10 @@ defaultOutput s = sequenceBytes (defaultSequence (program s))
 -- The lparse text of a sheet: its records and its written atoms, no fresh ones. Each list of atoms rises, by question 6.
 unfoldable pub lparseOutput : List ℕ → List ℕ
 lparseOutput s = lparseText (lparseProgram (atomsByte s) (records s))
+
+-- The shortest chain that is not found in a sequence: one byte for each of its atoms.
+unfoldable pub missingOutput : List ℕ → List ℕ → List ℕ
+missingOutput s q = missingChain (program s) (entries q)
 
 -- The unfolded program of a sheet and a sequence.
 unfoldable pub unfoldedOutput : List ℕ → List ℕ → List ℕ

@@ -9,10 +9,10 @@ use lib.ListN.{length}
 use Rattle.sheet.specs.Format.{atomsByte, recordsByte}
 use Rattle.sheet.specs.declared.Limits.{Limits}
 use Rattle.core.specs.Outcome.{Outcome, outcome, fromRead, fromBody, fromWrite, fromTest, fromClauses, fromCount, Emits}
-use Rattle.core.specs.Outputs.{componentsOutput, defaultOutput, lparseOutput, unfoldedOutput, clausesOutput, clauseNumbers, countValues}
+use Rattle.core.specs.Outputs.{componentsOutput, defaultOutput, lparseOutput, missingOutput, unfoldedOutput, clausesOutput, clauseNumbers, countValues}
 use Rattle.core.specs.Outputs.{bodyStart, bodyEnd, bodyPositives, slice}
 use Rattle.core.specs.Questions.{readQuestions, bodyQuestions, componentsQuestions, defaultQuestions, lparseQuestions}
-use Rattle.core.specs.Questions.{testQuestions, unfoldedQuestions, clausesQuestions, countQuestions}
+use Rattle.core.specs.Questions.{testQuestions, missingQuestions, unfoldedQuestions, clausesQuestions, countQuestions}
 use Rattle.core.specs.declared.ReadAnswer.{ReadAnswer}
 use Rattle.core.specs.declared.BodyAnswer.{BodyAnswer}
 use Rattle.core.specs.declared.BodyPlace.{BodyPlace}
@@ -95,6 +95,14 @@ testOutcome L s q = outcome (testQuestions L s q) []
 -- The answer of testing is its outcome.
 unfoldable pub TestPromise : Limits → List ℕ → List ℕ → TestAnswer → Type 0
 TestPromise L s q r = fromTest r ≡ testOutcome L s q
+
+-- Finding the missing chain: its number of atoms.
+unfoldable pub missingOutcome : Limits → ℕ → List ℕ → List ℕ → Outcome
+missingOutcome L room s q = outcome (missingQuestions L room s q) (length (missingOutput s q) ∷ [])
+
+-- Its answer is its outcome, and the buffer is filled by it.
+unfoldable pub MissingPromise : Limits → List ℕ → List ℕ → List ℕ → List ℕ → WriteAnswer → Type 0
+MissingPromise L s q old new r = Emits (missingOutcome L (length old) s q) (missingOutput s q) old new (fromWrite r)
 
 -- Writing the unfolded program: the length of the output.
 unfoldable pub unfoldedOutcome : Limits → ℕ → List ℕ → List ℕ → Outcome

@@ -1,5 +1,6 @@
 -- The questions ("The questions" of document 01), and for each operation the chain of those that it asks, in their order.
 -- Each is 0 for a yes and its number for a no.
+use mathlib.Core.Bool.{not}
 use mathlib.Core.List.{List}
 use Prim.Native.Nat.{ℕ, _+_}
 use lib.Dec.{leb, ltb}
@@ -12,7 +13,7 @@ use Rattle.sheet.specs.Sheet.{records, choices, program}
 use Rattle.sheet.specs.declared.Limits.{Limits}
 use Rattle.components.specs.Limit.{componentsFit}
 use Rattle.counting.specs.DecisionAtoms.{decisionAtoms}
-use Rattle.core.specs.Outputs.{componentsOutput, defaultOutput, lparseOutput, unfoldedOutput, clausesOutput}
+use Rattle.core.specs.Outputs.{componentsOutput, defaultOutput, lparseOutput, missingOutput, unfoldedOutput, clausesOutput}
 
 -- 1: at least 5 bytes, the first being 1.
 abbrev pub question1 : List ℕ → ℕ
@@ -54,6 +55,10 @@ question10 output room = ask (leb (length output) room) 10
 abbrev pub question11 : List ℕ → ℕ
 question11 s = ask (leb (length (decisionAtoms (atomsByte s) (records s))) 16) 11
 
+-- 14: some chain is not found in the sequence.
+abbrev pub question14 : List ℕ → List ℕ → ℕ
+question14 s q = ask (not (passes (program s) (entries q))) 14
+
 -- B: the record's number is below the number of records.
 abbrev pub questionB : ℕ → List ℕ → ℕ
 questionB i s = ask (ltb i (recordsByte s)) 12
@@ -63,7 +68,7 @@ unfoldable pub readQuestions : Limits → List ℕ → ℕ
 readQuestions L s =
     question1 s then question2 s then question3 L s then questions4to6 s then question13 L s then question7 L s
 
--- Testing a sequence, and what every operation on a sheet and a sequence asks first.
+-- Testing a sequence, and what the operations that unfold by a sequence ask first.
 unfoldable pub testQuestions : Limits → List ℕ → List ℕ → ℕ
 testQuestions L s q =
     question1 s then question2 s then question3 L s then questions4to6 s then question13 L s then question7 L s
@@ -84,6 +89,10 @@ defaultQuestions L room s = readQuestions L s then question10 (defaultOutput s) 
 -- Writing lparse text.
 abbrev pub lparseQuestions : Limits → ℕ → List ℕ → ℕ
 lparseQuestions L room s = readQuestions L s then question10 (lparseOutput s) room
+
+-- Finding the missing chain: what testing asks, with 14 in place of 9, then 10.
+abbrev pub missingQuestions : Limits → ℕ → List ℕ → List ℕ → ℕ
+missingQuestions L room s q = readQuestions L s then question8 L s q then question14 s q then question10 (missingOutput s q) room
 
 -- Writing the unfolded program.
 abbrev pub unfoldedQuestions : Limits → ℕ → List ℕ → List ℕ → ℕ

@@ -8,6 +8,8 @@ use components::components_of;
 use components::fits;
 use lparse_output::lparse_length;
 use lparse_output::put_lparse;
+use missing::find_start;
+use missing::put_missing;
 use reader::read_header;
 use reader::read_records;
 use sheet::Limits;
@@ -35,7 +37,7 @@ ghost use Rattle.writer.specs.inner.Wrote.{Wrote};
 ghost use Rattle.core.specs.Outcome.{fromVerdict};
 ghost use Rattle.core.specs.Outputs.{sequenceHeader};
 ghost use Rattle.core.specs.Promises.{ReadPromise, BodyPromise, SlicePromise, nowhere, FindPromise};
-ghost use Rattle.core.specs.Promises.{ComponentsPromise, DefaultPromise, LparsePromise, TestPromise, UnfoldedPromise, ClausesPromise, CountPromise};
+ghost use Rattle.core.specs.Promises.{ComponentsPromise, DefaultPromise, LparsePromise, TestPromise, MissingPromise, UnfoldedPromise, ClausesPromise, CountPromise};
 ghost use Rattle.core.specs.inner.Places.{Placed};
 ghost use Rattle.core.specs.inner.Asked.{Supported, SheetAsked, RecordsAsked, SequenceAsked, BothKept};
 
@@ -396,6 +398,32 @@ pub fn test(limits: Limits, s: &[u8], q: &[u8]) -> TestAnswer
         return TestAnswer::Refused(refusal);
     }
     TestAnswer::Passed
+}
+
+// Finding the missing chain: the shortest chain that is not found in the sequence.
+pub fn missing(limits: Limits, s: &[u8], q: &[u8], out: &mut [u8]) -> WriteAnswer
+    requires { ⌜ Supported limits ⌝ }
+    ensures { λ r. ⌜ MissingPromise limits (now (s .entry)) (now (q .entry)) (now (out .entry)) (now (out .exit)) r ⌝ }
+{
+    let a = ask_sheet(limits, s);
+    let refusal = a.refusal;
+    if refusal != 0 {
+        return WriteAnswer::Refused(refusal);
+    }
+    let n = a.atoms;
+    if !sequence_fits(limits, n, q) {
+        return WriteAnswer::Refused(8);
+    }
+    let start = find_start(n, &a.components.edges, &a.components.sets, q);
+    // More than 64 atoms stand for no chain.
+    if 64 < start.length {
+        return WriteAnswer::Refused(14);
+    }
+    if out.len() < start.length {
+        return WriteAnswer::Refused(10);
+    }
+    let length = put_missing(out, &a.components.edges, q, start);
+    WriteAnswer::Length(length)
 }
 
 // Writing the unfolded program.

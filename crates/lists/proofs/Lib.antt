@@ -2,5 +2,6 @@ pub mod Bools
 pub mod Members
 pub mod Nodup
 pub mod Sublists
+pub mod Sorted
 pub mod Exchange
 pub mod Tables

@@ -6,15 +6,15 @@ use lib.Dec.{lit<, lit≤}
 use lib.ListN.{length}
 use Rattle.sheet.specs.declared.Limits.{Limits}
 use Rattle.core.specs.inner.Asked.{Supported}
-use Rattle.core.specs.Outputs.{lparseOutput}
+use Rattle.core.specs.Outputs.{lparseOutput, missingOutput}
 use Rattle.core.specs.Questions.{readQuestions}
 use Rattle.core.specs.Calls.{Promised}
-use Rattle.core.specs.Demands.{Demand1, Demand2, Demand3, TextForSolvers, DefaultAccepted}
+use Rattle.core.specs.Demands.{Demand1, Demand2, Demand3, TextForSolvers, MissingChains, DefaultAccepted}
 use Rattle.core.specs.Claims.{Shorter}
 use Rattle.core.proofs.Calls.{demand-1}
 use Rattle.core.proofs.Default.{default-accepted}
-use Rattle.core.proofs.Demands.{demand-2, demand-3, text-for-solvers}
-use Rattle.core.proofs.Claims.{outputs-shorten, lparse-fits}
+use Rattle.core.proofs.Demands.{demand-2, demand-3, text-for-solvers, missing-chains}
+use Rattle.core.proofs.Claims.{outputs-shorten, lparse-fits, missing-fits}
 use Rattle.office.specs.Office.{office}
 
 pub supported : (L : Limits) → L ≡ office → Supported L
@@ -38,6 +38,10 @@ office-demand-3 = demand-3 office
 pub office-text-for-solvers : TextForSolvers (Promised office)
 office-text-for-solvers = text-for-solvers office
 
+-- What the office's missing chains are.
+pub office-missing-chains : MissingChains (Promised office)
+office-missing-chains = missing-chains office
+
 -- What the office writes is shortened.
 pub office-shorter : Shorter (Promised office)
 office-shorter = outputs-shorten office (Promised office) office-demand-1
@@ -45,3 +49,7 @@ office-shorter = outputs-shorten office (Promised office) office-demand-1
 -- No lparse text of the office is longer than this.
 pub office-lparse-fits : (s : List ℕ) → readQuestions office s ≡ 0 → length (lparseOutput s) ≤ 49088
 office-lparse-fits = lparse-fits office (lit≤ tt) (lit≤ tt)
+
+-- Nor has a missing chain more atoms than ten.
+pub office-missing-fits : (s q : List ℕ) → readQuestions office s ≡ 0 → length (missingOutput s q) ≤ 10
+office-missing-fits = missing-fits office

@@ -8,6 +8,7 @@ use Rattle.asp.specs.StableModel.{definite, reduct, lawful, derived, isStable}
 use Rattle.asp.specs.Count.{empty, with, states, stableModels, count, verdict}
 use Rattle.unfolding.specs.Graph.{edge, onward, reach, sameComponent, first, component}
 use Rattle.unfolding.specs.Chain.{linked, extends, longer, chainsOf, chains, found, passes}
+use Rattle.unfolding.specs.Missing.{missingChains, missingChain}
 use Rattle.unfolding.specs.Default.{members, block, defaultSequence}
 use Rattle.unfolding.specs.Unfolded.{last, latestKeeps, latest, usable, replaced, renamed, isKept, keptFor, variable, copiesFrom, unfolded}
 use Rattle.unfolding.specs.Clauses.{negated, literals, ruleClauses, rulesClauses, copyClauses, copiesClauses, constraintClause, clauses, variables, signed, clauseWords, signedWords}
@@ -22,11 +23,11 @@ use Rattle.core.specs.Outcome.{outcome}
 use Rattle.text.specs.Text.{digits, decimal}
 use Rattle.lparse_format.specs.Program.{lparseBody, lparseRule, symbol, lparseProgram}
 use Rattle.lparse_format.specs.Text.{fieldText, line, bodyNumbers, ruleText, symbolText, atomText, lparseText}
-use Rattle.core.specs.Outputs.{sequenceBytes, defaultOutput, lparseOutput, clausesOutput, clauseNumbers}
+use Rattle.core.specs.Outputs.{sequenceBytes, defaultOutput, lparseOutput, missingOutput, clausesOutput, clauseNumbers}
 use Rattle.core.specs.Questions.{readQuestions, testQuestions}
-use Rattle.core.specs.Promises.{defaultOutcome, lparseOutcome, testOutcome, clausesOutcome, countOutcome}
+use Rattle.core.specs.Promises.{defaultOutcome, lparseOutcome, testOutcome, missingOutcome, clausesOutcome, countOutcome}
 use Rattle.office.specs.Probes.{nothing, noEntries, positiveLoop, oddLoop, evenLoop, emptyConstraint, sheetA, threeEntries, fourEntries, loopEntries, answer, table, ProbesHold}
 
 pub probes : ProbesHold
-unfolding table answer nothing noEntries positiveLoop oddLoop evenLoop emptyConstraint sheetA threeEntries fourEntries loopEntries flatMap below all any filter times member range outside holds consequences iterate leastModel definite reduct lawful derived isStable empty with states stableModels count verdict edge onward reach sameComponent first component linked extends longer chainsOf chains found passes members block defaultSequence last latestKeeps latest usable replaced renamed isKept keptFor variable copiesFrom unfolded negated literals ruleClauses rulesClauses copyClauses copiesClauses constraintClause clauses variables signed clauseWords signedWords clausesOf variablesOf ask _then_ opens measured limited complete kindFits kindPasses rising listFits listsFit sequenceFits recordAt recordsFrom records adding unless recordRules nextFresh rulesOf constraintsOf choices programOf program componentsFit asksFor decisionAtoms outcome digits decimal lparseBody lparseRule symbol lparseProgram fieldText line bodyNumbers ruleText symbolText atomText lparseText sequenceBytes defaultOutput lparseOutput clausesOutput clauseNumbers recordQuestions recordsQuestions readQuestions testQuestions defaultOutcome lparseOutcome testOutcome clausesOutcome countOutcome
+unfolding table answer nothing noEntries positiveLoop oddLoop evenLoop emptyConstraint sheetA threeEntries fourEntries loopEntries flatMap below all any filter times member range outside holds consequences iterate leastModel definite reduct lawful derived isStable empty with states stableModels count verdict edge onward reach sameComponent first component linked extends longer chainsOf chains found passes missingChains missingChain members block defaultSequence last latestKeeps latest usable replaced renamed isKept keptFor variable copiesFrom unfolded negated literals ruleClauses rulesClauses copyClauses copiesClauses constraintClause clauses variables signed clauseWords signedWords clausesOf variablesOf ask _then_ opens measured limited complete kindFits kindPasses rising listFits listsFit sequenceFits recordAt recordsFrom records adding unless recordRules nextFresh rulesOf constraintsOf choices programOf program componentsFit asksFor decisionAtoms outcome digits decimal lparseBody lparseRule symbol lparseProgram fieldText line bodyNumbers ruleText symbolText atomText lparseText sequenceBytes defaultOutput lparseOutput missingOutput clausesOutput clauseNumbers recordQuestions recordsQuestions readQuestions testQuestions defaultOutcome lparseOutcome testOutcome missingOutcome clausesOutcome countOutcome
 probes = refl

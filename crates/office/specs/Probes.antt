@@ -1,20 +1,19 @@
--- The starred probes of document 01 ("Probes at the limits"), one of copies that can never come on, and two of lparse text: a table of what is
--- asked and what is expected, and that the two agree.
-use mathlib.Core.Bool.{not}
+-- The starred probes of document 01 ("Probes at the limits"), one of copies that can never come on, two of lparse text, and two of missing
+-- chains: a table of what is asked and what is expected, and that the two agree.
 use mathlib.Core.List.{List, [], _∷_, map}
 use mathlib.Core.Path.{_≡_}
 use Prim.Native.Nat.{ℕ}
 use lib.IntN.{ℤ, pos as plus, negℤ}
 use Rattle.lists.specs.Lists.{filter, range}
 use Rattle.asp.specs.Count.{stableModels}
-use Rattle.unfolding.specs.Chain.{chains, found}
+use Rattle.unfolding.specs.Missing.{missingChains}
 use Rattle.sheet.specs.Format.{atomsByte}
 use Rattle.sheet.specs.Sequence.{entries}
 use Rattle.sheet.specs.Sheet.{program}
 use Rattle.core.specs.Outcome.{Outcome, refused, answered}
 use Rattle.text.specs.Text.{ascii}
-use Rattle.core.specs.Outputs.{defaultOutput, lparseOutput, clausesOutput}
-use Rattle.core.specs.Promises.{defaultOutcome, lparseOutcome, testOutcome, clausesOutcome, countOutcome}
+use Rattle.core.specs.Outputs.{defaultOutput, lparseOutput, missingOutput, clausesOutput}
+use Rattle.core.specs.Promises.{defaultOutcome, lparseOutcome, testOutcome, missingOutcome, clausesOutcome, countOutcome}
 use Rattle.office.specs.Office.{office}
 
 -- No atom and no rule.
@@ -61,8 +60,8 @@ loopEntries = 1 ∷ 0 ∷ 3 ∷ 0 ∷ 1 ∷ 0 ∷ []
 pub data Query : Type 0 where
   count models : List ℕ → Query
   default lparse : ℕ → List ℕ → Query
-  test missing : List ℕ → List ℕ → Query
-  clauses : ℕ → List ℕ → List ℕ → Query
+  test allMissing : List ℕ → List ℕ → Query
+  missing clauses : ℕ → List ℕ → List ℕ → Query
 
 -- What is answered: an operation's outcome, with its output where it writes one, or lists of atoms.
 pub data Answer : Type 0 where
@@ -79,8 +78,9 @@ answer (models s) = atoms (map (λ X. filter X (range 0 (atomsByte s))) (stableM
 answer (default room s) = bytes (defaultOutcome office room s) (defaultOutput s)
 answer (lparse room s) = bytes (lparseOutcome office room s) (lparseOutput s)
 answer (test s q) = outcome (testOutcome office s q)
--- The chains that are not found in the sequence.
-answer (missing s q) = atoms (filter (λ w. not (found w (entries q))) (chains (program s)))
+-- The chains that are not found in the sequence, and the first of them.
+answer (allMissing s q) = atoms (missingChains (program s) (entries q))
+answer (missing room s q) = bytes (missingOutcome office room s q) (missingOutput s q)
 answer (clauses room s q) = words (clausesOutcome office room s q) (clausesOutput s q)
 
 -- The table: what is asked, and what is expected.
@@ -97,7 +97,9 @@ table =
     ∷ (count sheetA, outcome (answered (2 ∷ 2 ∷ [])))
     ∷ (default 8 sheetA, bytes (answered (8 ∷ [])) (1 ∷ 0 ∷ 5 ∷ 0 ∷ 1 ∷ 0 ∷ 1 ∷ 2 ∷ []))
     ∷ (test sheetA threeEntries, outcome (refused 9))
-    ∷ (missing sheetA threeEntries, atoms ((1 ∷ 0 ∷ []) ∷ []))
+    ∷ (allMissing sheetA threeEntries, atoms ((1 ∷ 0 ∷ []) ∷ []))
+    ∷ (missing 2 sheetA threeEntries, bytes (answered (2 ∷ [])) (1 ∷ 0 ∷ []))
+    ∷ (missing 0 sheetA fourEntries, bytes (refused 14) [])
     ∷ (test sheetA fourEntries, outcome (answered []))
     -- The first copy of 0 has no rule, for 1 has no copy yet; so the copy of 1 has none, and the last copy of 0 has none.
     ∷ (clauses 6 positiveLoop loopEntries, words (answered (6 ∷ 3 ∷ 3 ∷ [])) (negℤ (plus 3) ∷ plus 0 ∷ negℤ (plus 2) ∷ plus 0 ∷ negℤ (plus 1) ∷ plus 0 ∷ []))

@@ -10,7 +10,7 @@ use sheet::Limits;
 ghost use denote.Ref.{ptr};
 ghost use mathlib.Core.Path.{_≡_};
 ghost use Rattle.core.specs.Promises.{ReadPromise, BodyPromise, SlicePromise, FindPromise, ComponentsPromise, DefaultPromise, LparsePromise};
-ghost use Rattle.core.specs.Promises.{TestPromise, UnfoldedPromise, ClausesPromise, CountPromise};
+ghost use Rattle.core.specs.Promises.{TestPromise, MissingPromise, UnfoldedPromise, ClausesPromise, CountPromise};
 ghost use Rattle.office.specs.Office.{office};
 
 fn limits() -> Limits
@@ -85,6 +85,13 @@ pub fn test(s: &[u8], q: &[u8]) -> TestAnswer
     ensures { λ r. ⌜ TestPromise office (now (s .entry)) (now (q .entry)) r ⌝ }
 {
     core::test(limits(), s, q)
+}
+
+// Finding the missing chain: the refusal, or its number of atoms.
+pub fn missing(s: &[u8], q: &[u8], out: &mut [u8]) -> WriteAnswer
+    ensures { λ r. ⌜ MissingPromise office (now (s .entry)) (now (q .entry)) (now (out .entry)) (now (out .exit)) r ⌝ }
+{
+    core::missing(limits(), s, q, out)
 }
 
 // Writing the unfolded program: the refusal, or the number of words.

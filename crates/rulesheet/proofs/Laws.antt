@@ -6,7 +6,7 @@ use lib.IntN.{ℤ}
 use lib.ListN.{length}
 use Rattle.sheet.specs.declared.Limits.{Limits}
 use Rattle.core.specs.Outcome.{Outcome, refused, answered, code, fromVerdict, fromRead, fromWrite, fromTest, fromClauses, fromCount, Emits}
-use Rattle.core.specs.Outputs.{componentsOutput, defaultOutput, lparseOutput, unfoldedOutput, clausesOutput, bodyStart, bodyEnd, bodyPositives}
+use Rattle.core.specs.Outputs.{componentsOutput, defaultOutput, lparseOutput, missingOutput, unfoldedOutput, clausesOutput, bodyStart, bodyEnd, bodyPositives}
 use Rattle.core.specs.Questions.{bodyQuestions}
 use Rattle.core.specs.declared.BodyPlace.{BodyPlace}
 use Rattle.core.specs.declared.ClausesAnswer.{ClausesAnswer}
@@ -21,7 +21,7 @@ use Rattle.core.specs.declared.TestAnswer.the-variants as test
 use Rattle.core.specs.declared.WriteAnswer.{WriteAnswer}
 use Rattle.core.specs.declared.WriteAnswer.the-variants as write
 use Rattle.core.specs.Promises.{readOutcome, ReadPromise, FindPromise, componentsOutcome, ComponentsPromise, defaultOutcome, DefaultPromise, lparseOutcome, LparsePromise}
-use Rattle.core.specs.Promises.{testOutcome, TestPromise, unfoldedOutcome, UnfoldedPromise, clausesOutcome, ClausesPromise, countOutcome, CountPromise}
+use Rattle.core.specs.Promises.{testOutcome, TestPromise, missingOutcome, MissingPromise, unfoldedOutcome, UnfoldedPromise, clausesOutcome, ClausesPromise, countOutcome, CountPromise}
 use Rattle.core.proofs.Outcomes.{outcome-refused, outcome-answered}
 use Rattle.core.proofs.Reading.{found-says, found-place}
 use Rattle.rulesheet.specs.Exported.{status, stored, Stores, Writes, shownOutcome}
@@ -98,6 +98,15 @@ module _ (L : Limits) (s old new before : List ℕ) (answer : WriteAnswer) where
     pub lparse-yes : (l : ℕ) → answer ≡ write.Length l → Writes (lparseOutcome L (length old) s) (lparseOutput s) old new 0 before (l ∷ [])
     unfolding LparsePromise
     lparse-yes l e = emits-yes _ (lparseOutput s) old new before (fromWrite answer) (l ∷ []) P (sym (ap fromWrite e))
+
+  module _ (q : List ℕ) (P : MissingPromise L s q old new answer) where
+    pub missing-no : (refusal : ℕ) → answer ≡ write.Refused refusal → Writes (missingOutcome L (length old) s q) (missingOutput s q) old new refusal before before
+    unfolding MissingPromise
+    missing-no refusal e = emits-no _ (missingOutput s q) old new before (fromWrite answer) refusal P (sym (ap fromWrite e))
+
+    pub missing-yes : (l : ℕ) → answer ≡ write.Length l → Writes (missingOutcome L (length old) s q) (missingOutput s q) old new 0 before (l ∷ [])
+    unfolding MissingPromise
+    missing-yes l e = emits-yes _ (missingOutput s q) old new before (fromWrite answer) (l ∷ []) P (sym (ap fromWrite e))
 
   module _ (q : List ℕ) (P : UnfoldedPromise L s q old new answer) where
     pub unfolded-no : (refusal : ℕ) → answer ≡ write.Refused refusal → Writes (unfoldedOutcome L (length old) s q) (unfoldedOutput s q) old new refusal before before

@@ -6,8 +6,8 @@ use lib.IntN.{ℤ}
 use lib.ListN.{length, take}
 use Rattle.sheet.specs.declared.Limits.{Limits}
 use Rattle.core.specs.Outcome.{Outcome, outcome}
-use Rattle.core.specs.Outputs.{componentsOutput, defaultOutput, lparseOutput, unfoldedOutput, clausesOutput}
-use Rattle.core.specs.Promises.{readOutcome, componentsOutcome, defaultOutcome, lparseOutcome, testOutcome, unfoldedOutcome, clausesOutcome, countOutcome}
+use Rattle.core.specs.Outputs.{componentsOutput, defaultOutput, lparseOutput, missingOutput, unfoldedOutput, clausesOutput}
+use Rattle.core.specs.Promises.{readOutcome, componentsOutcome, defaultOutcome, lparseOutcome, testOutcome, missingOutcome, unfoldedOutcome, clausesOutcome, countOutcome}
 use Rattle.core.specs.Calls.{Call, Buffer, nothing, unsigned, signed, values, Service}
 use Rattle.core.specs.Calls as call
 use Rattle.rulesheet.specs.Exported.{Stores, Writes, shownOutcome}
@@ -23,6 +23,8 @@ Returned L (call.default s old) r before after b =
 Returned L (call.lparse s old) r before after b =
     (new : List ℕ) × Writes (lparseOutcome L (length old) s) (lparseOutput s) old new r before after × (b ≡ unsigned new)
 Returned L (call.test s q) r before after b = Stores (testOutcome L s q) r before after × (b ≡ nothing)
+Returned L (call.missing s q old) r before after b =
+    (new : List ℕ) × Writes (missingOutcome L (length old) s q) (missingOutput s q) old new r before after × (b ≡ unsigned new)
 Returned L (call.unfolded s q old) r before after b =
     (new : List ℕ) × Writes (unfoldedOutcome L (length old) s q) (unfoldedOutput s q) old new r before after × (b ≡ unsigned new)
 Returned L (call.clauses s q old) r before after b =

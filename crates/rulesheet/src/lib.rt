@@ -9,8 +9,8 @@ ghost use mathlib.Core.Path.{_≡_};
 ghost use mathlib.Core.List.{_∷_, []};
 ghost use lib.ListN.{length};
 ghost use Rattle.core.specs.Outcome.{code, fromVerdict};
-ghost use Rattle.core.specs.Outputs.{componentsOutput, defaultOutput, lparseOutput, unfoldedOutput, clausesOutput};
-ghost use Rattle.core.specs.Promises.{readOutcome, componentsOutcome, defaultOutcome, lparseOutcome, testOutcome, unfoldedOutcome, clausesOutcome, countOutcome};
+ghost use Rattle.core.specs.Outputs.{componentsOutput, defaultOutput, lparseOutput, missingOutput, unfoldedOutput, clausesOutput};
+ghost use Rattle.core.specs.Promises.{readOutcome, componentsOutcome, defaultOutcome, lparseOutcome, testOutcome, missingOutcome, unfoldedOutcome, clausesOutcome, countOutcome};
 ghost use Rattle.office.specs.Office.{office};
 ghost use Rattle.rulesheet.specs.Exported.{Stores, Writes, shownOutcome};
 
@@ -115,6 +115,28 @@ pub extern "C" fn rulesheet_test(sheet: &[u8], sequence: &[u8]) -> u32
     match answer {
         TestAnswer::Refused(refusal) => refusal,
         TestAnswer::Passed => 0,
+    }
+}
+
+// Finding the missing chain.
+#[no_mangle]
+pub extern "C" fn rulesheet_missing(
+    sheet: &[u8],
+    sequence: &[u8],
+    out: &mut [u8],
+    written: &mut u64,
+) -> u32
+    ensures { λ r. ⌜ Writes (missingOutcome office (length (now (out .entry))) (now (sheet .entry)) (now (sequence .entry)))
+        (missingOutput (now (sheet .entry)) (now (sequence .entry)))
+        (now (out .entry)) (now (out .exit)) r (now (written .entry) ∷ []) (now (written .exit) ∷ []) ⌝ }
+{
+    let answer = office::missing(sheet, sequence, out);
+    match answer {
+        WriteAnswer::Refused(refusal) => refusal,
+        WriteAnswer::Length(atoms) => {
+            *written = atoms as u64;
+            0
+        }
     }
 }
 

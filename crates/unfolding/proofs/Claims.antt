@@ -1,7 +1,8 @@
 -- The proof of each claim.
-use Rattle.unfolding.specs.Claims.{ReachIsLeast, EveryAtomInOne, NamedBySmallest, ChainsAreListed, TestIsPasses, DefaultPasses, UnfoldedHasNoLoop, WordsAreUnfolded, WordsHaveNoLoop, UnfoldedIsShortened, ReadsKeptCopies, ClausesAreFaithful, LiteralsAreNumbered, WordsAreClauses}
+use Rattle.unfolding.specs.Claims.{ReachIsLeast, EveryAtomInOne, NamedBySmallest, ChainsAreListed, TestIsPasses, MissingIsThere, MissingIsShortest, ShortestIsOnly, DefaultPasses, UnfoldedHasNoLoop, WordsAreUnfolded, WordsHaveNoLoop, UnfoldedIsShortened, ReadsKeptCopies, ClausesAreFaithful, LiteralsAreNumbered, WordsAreClauses}
 use Rattle.unfolding.proofs.Reach.{reach-induction, reach-refl, reach-edge, same-refl, component-of, component-only, component-shared, component-smallest}
 use Rattle.unfolding.proofs.Chains.{chains-in, chains-out, passes-iff}
+use Rattle.unfolding.proofs.Missing.{missing-there, missing-shortest, shortest-only}
 use Rattle.unfolding.proofs.Default.{default-passes}
 use Rattle.unfolding.specs.Unfolded.{unfolded}
 use Rattle.unfolding.proofs.NoLoop.{no-positive-loop}
@@ -28,6 +29,15 @@ chains-are-listed P w c = (chains-out P w c, chains-in P c)
 
 pub test-is-passes : TestIsPasses
 test-is-passes = passes-iff
+
+pub missing-is-there : MissingIsThere
+missing-is-there = missing-there
+
+pub missing-is-shortest : MissingIsShortest
+missing-is-shortest = missing-shortest
+
+pub shortest-is-only : ShortestIsOnly
+shortest-is-only = shortest-only
 
 pub default-is-found : DefaultPasses
 default-is-found = default-passes

@@ -14,29 +14,35 @@ use Rattle.lists.proofs.Nodup.{nodup-append, nodup-filter, nodup-head, nodup-le
 use Rattle.lists.proofs.Sublists.{sublist-times, sublist-flatMap}
 use Rattle.asp.specs.Program.{Program, wellFormed}
 use Rattle.unfolding.specs.Graph.{component}
-use Rattle.unfolding.specs.Chain.{Passes}
+use Rattle.unfolding.specs.Chain.{Chain, Passes}
 use Rattle.unfolding.specs.Default.{members, block, defaultSequence}
 use Rattle.unfolding.proofs.Reach.{component-same, component-shared, same-below}
 use Rattle.unfolding.proofs.Chains.{component-at}
 
+-- A chain and the component of its first atom.
+module _ (P : Program) (wf : wellFormed P ≡ true) (a : ℕ) (w : List ℕ) (C : Chain P (a ∷ w)) where
+  chain-member : (x : ℕ) → List·Memᴰ x (a ∷ w) → List·Memᴰ x (members P (component P a))
+  unfolding members
+  chain-member x m =
+      let l = below-at (P .atoms) (a ∷ w) (C .atoms) x m in
+      filter-in (λ y. eqb (component P y) (component P a)) (range 0 (P .atoms)) x (range-in 0 (P .atoms) x (omega arith) (omega arith))
+      (eq-eqb (component P x) (component P a) (component-same P wf x a l (component-at P (a ∷ w) C x a m (List·Memᴰ·head refl))))
+
+  pub chain-few : length (a ∷ w) ≤ length (members P (component P a))
+  chain-few = nodup-le (a ∷ w) (members P (component P a)) (C .different) chain-member
+
+  pub chain-named : List·Memᴰ (component P a) (range 0 (P .atoms))
+  chain-named =
+      let here = below-at (P .atoms) (a ∷ w) (C .atoms) a (List·Memᴰ·head refl) in
+      let l = same-below P wf a (component P a) here (component-shared P wf a here) in
+      range-in 0 (P .atoms) (component P a) (omega arith) (omega arith)
+
 pub default-passes : (P : Program) → wellFormed P ≡ true → Passes P (defaultSequence P)
-unfolding defaultSequence block members
+unfolding defaultSequence block
 default-passes P wf [] C = absurd (C .some refl)
 default-passes P wf (a ∷ w) C =
-    Sublistᴰ·trans (sublist-times (length (members P c)) (a ∷ w) (members P c) (nodup-le (a ∷ w) (members P c) (C .different) inside) inside)
-    (sublist-flatMap (block P) (range 0 (P .atoms)) c (range-in 0 (P .atoms) c (omega arith) (let l = same-below P wf a c here (component-shared P wf a here) in omega arith)))
-  where
-    c : ℕ
-    c = component P a
-
-    here : a < P .atoms
-    here = below-at (P .atoms) (a ∷ w) (C .atoms) a (List·Memᴰ·head refl)
-
-    inside : (x : ℕ) → List·Memᴰ x (a ∷ w) → List·Memᴰ x (members P c)
-    inside x m =
-        let l = below-at (P .atoms) (a ∷ w) (C .atoms) x m in
-        filter-in (λ y. eqb (component P y) c) (range 0 (P .atoms)) x (range-in 0 (P .atoms) x (omega arith) (omega arith))
-        (eq-eqb (component P x) c (component-same P wf x a l (component-at P (a ∷ w) C x a m (List·Memᴰ·head refl))))
+    Sublistᴰ·trans (sublist-times (length (members P (component P a))) (a ∷ w) (members P (component P a)) (chain-few P wf a w C) (chain-member P wf a w C))
+    (sublist-flatMap (block P) (range 0 (P .atoms)) (component P a) (chain-named P wf a w C))
 
 -- Its length: each atom of a component of k atoms stands k times.
 members-differ : (P : Program) (cs : List ℕ) → List·Nodup cs → List·Nodup (flatMap (members P) cs)

@@ -1,5 +1,6 @@
 pub mod Reach
 pub mod Chains
+pub mod Missing
 pub mod Starting
 pub mod Default
 pub mod Current

@@ -1,6 +1,6 @@
 -- Chains, and when a sequence passes the chain question ("Components and chains" of document 01, question 9).
 use mathlib.Core.Bool.{Bool, true, false, not, _&&_, _||_}
-use mathlib.Core.List.{List, [], _∷_, map, flatMap, List·Nodup, Sublistᴰ}
+use mathlib.Core.List.{List, [], _∷_, _++_, map, flatMap, List·Nodup, Sublistᴰ}
 use mathlib.Core.Logic.{_≢_}
 use mathlib.Core.Path.{_≡_}
 use Prim.Native.Nat.{ℕ, zero, suc}
@@ -27,20 +27,20 @@ pub record Chain (P : Program) (w : List ℕ) : Type 0 where
 abbrev pub Passes : Program → List ℕ → Type 0
 Passes P s = (w : List ℕ) → Chain P w → Sublistᴰ w s
 
--- The atom b can stand in front of the chain w.
+-- The atom b can stand behind the chain w.
 unfoldable pub extends : Program → List ℕ → ℕ → Bool
-extends P w b = linked P (b ∷ w) && all (sameComponent P b) w && not (member b w)
+extends P w b = linked P (w ++ (b ∷ [])) && all (sameComponent P b) w && not (member b w)
 
--- The chains that are w with one atom more in front.
+-- The chains that are w with one atom more at the end, that atom rising.
 unfoldable pub longer : Program → List ℕ → List (List ℕ)
-longer P w = map (λ b. b ∷ w) (filter (extends P w) (range 0 (P .atoms)))
+longer P w = map (λ b. w ++ (b ∷ [])) (filter (extends P w) (range 0 (P .atoms)))
 
--- The chains of k + 1 atoms.
+-- The chains of k + 1 atoms, in the order of their atoms.
 unfoldable pub chainsOf : Program → ℕ → List (List ℕ)
 chainsOf P zero = map (λ a. a ∷ []) (range 0 (P .atoms))
 chainsOf P (suc k) = flatMap (longer P) (chainsOf P k)
 
--- All chains: none has more atoms than the program.
+-- All chains, shorter ones first: none has more atoms than the program.
 unfoldable pub chains : Program → List (List ℕ)
 chains P = flatMap (chainsOf P) (range 0 (P .atoms))
 

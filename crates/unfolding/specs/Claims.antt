@@ -1,5 +1,5 @@
 -- What is proved of the definitions; `proofs/Claims.antt` has the proof of each.
-use mathlib.Core.Bool.{true}
+use mathlib.Core.Bool.{true, false}
 use mathlib.Core.List.{List, [], List·Memᴰ}
 use mathlib.Core.Logic.{_↔_, _≢_}
 use mathlib.Core.Path.{_≡_}
@@ -9,6 +9,7 @@ use Rattle.asp.specs.Program.{Body, Program, State, wellFormed}
 use Rattle.unfolding.specs.Graph.{edge, reach, sameComponent, component}
 use Rattle.unfolding.specs.Component.{Component}
 use Rattle.unfolding.specs.Chain.{Chain, Passes, chains, passes}
+use Rattle.unfolding.specs.Missing.{missingChain, ShortestMissing}
 use Rattle.unfolding.specs.Default.{defaultSequence}
 use Rattle.unfolding.specs.Unfolded.{Copy, NoPositiveLoop, unfolded, words}
 use Rattle.unfolding.specs.Decoded.{readUnfolded, nameless}
@@ -52,6 +53,16 @@ ChainsAreListed = (P : Program) → wellFormed P ≡ true → (w : List ℕ) →
 
 abbrev pub TestIsPasses : Type 0
 TestIsPasses = (P : Program) → wellFormed P ≡ true → (s : List ℕ) → (passes P s ≡ true) ↔ Passes P s
+
+-- A missing chain is there just when the test says no; it is the shortest, and among equals the first; and no other list is.
+abbrev pub MissingIsThere : Type 0
+MissingIsThere = (P : Program) → wellFormed P ≡ true → (s : List ℕ) → (missingChain P s ≢ []) ↔ (passes P s ≡ false)
+
+abbrev pub MissingIsShortest : Type 0
+MissingIsShortest = (P : Program) → wellFormed P ≡ true → (s : List ℕ) → passes P s ≡ false → ShortestMissing P s (missingChain P s)
+
+abbrev pub ShortestIsOnly : Type 0
+ShortestIsOnly = (P : Program) → wellFormed P ≡ true → (s w : List ℕ) → ShortestMissing P s w → w ≡ missingChain P s
 
 -- The default sequence passes.
 abbrev pub DefaultPasses : Type 0

@@ -1,6 +1,7 @@
 pub mod Graph
 pub mod Component
 pub mod Chain
+pub mod Missing
 pub mod Default
 pub mod Unfolded
 pub mod Decoded

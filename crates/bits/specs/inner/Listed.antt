@@ -16,3 +16,7 @@ pub record Listing (x : ℕ) (L : Atoms) : Type 0 where
 -- The first k atoms of the list are below 64.
 pub record Low (atoms : List ℕ) (k : ℕ) : Type 0 where
   pub low : (j : ℕ) → j < k → getD atoms j 0 < 64
+
+-- The first k atoms of the list rise.
+pub record RisesTo (atoms : List ℕ) (k : ℕ) : Type 0 where
+  pub rises : (i j : ℕ) → i < j → j < k → getD atoms i 0 < getD atoms j 0

@@ -1,18 +1,18 @@
 -- `chains::place_of` meets its contract, one law for each way through it.
 use Prim.Native.Nat.{_-_}
 use borrow.Author.Needs.{needs}
-use Rattle.chains.proofs.Places.{Missing, missing-start, missing-turn, place-found, place-missing}
+use Rattle.chains.proofs.Places.{Absent, absent-start, absent-turn, place-found, place-absent}
 use Rattle.chains.proofs.place_of.Statement.{statement}
 use Rattle.chains.proofs.place_of.Tie as tie
 
 abbrev Inv-loop : tie.InvT-loop
-Inv-loop atoms k x p₀ p = Missing atoms x p
+Inv-loop atoms k x p₀ p = Absent atoms x p
 
 abbrev μ-loop : tie.MeasureT-loop
 μ-loop atoms k x p₀ p = k - p
 
 loop-holds : tie.Need-loop-holds Inv-loop μ-loop
-loop-holds c = search (needs, missing-start)
+loop-holds c = search (needs, absent-start)
 
 element-copy-out-wide : tie.Need-element-copy-out-wide Inv-loop μ-loop
 element-copy-out-wide c = search needs
@@ -30,10 +30,10 @@ loop-less : tie.Need-loop-less Inv-loop μ-loop
 loop-less c = search needs
 
 loop-again : tie.Need-loop-again Inv-loop μ-loop
-loop-again c = search (needs, missing-turn)
+loop-again c = search (needs, absent-turn)
 
 returns-2 : tie.Need-returns-2 Inv-loop μ-loop
-returns-2 c = search (needs, place-missing)
+returns-2 c = search (needs, place-absent)
 
 pub place-of-spec : {M : Type 1} → statement M
 place-of-spec =

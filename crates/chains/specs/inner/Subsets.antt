@@ -58,7 +58,7 @@ pub record Followers (rows atoms : List ℕ) (k x r : ℕ) : Type 0 where
 -- The place of x among the first k atoms, or k where it has none.
 pub record PlaceOf (atoms : List ℕ) (k x r : ℕ) : Type 0 where
   pub found : r < k → getD atoms r 0 ≡ x
-  pub missing : k ≤ r → (q : ℕ) → q < k → getD atoms q 0 ≡ x → ⊥
+  pub absent : k ≤ r → (q : ℕ) → q < k → getD atoms q 0 ≡ x → ⊥
 
 -- r is the number of sets of k places.
 pub record Power (k r : ℕ) : Type 0 where
@@ -70,6 +70,11 @@ pub record Power (k r : ℕ) : Type 0 where
 pub record Entered (rows atoms : List ℕ) (k x : ℕ) (old new : List ℕ) : Type 0 where
   pub long : length new ≡ length old
   pub turns : (P : Program) (s : List ℕ) → Setting P rows atoms k → SubsetTable P atoms k old s → SubsetTable P atoms k new (x ∷ s)
+
+-- The table is that of s.
+pub record Filled (rows atoms : List ℕ) (k : ℕ) (s sets : List ℕ) : Type 0 where
+  pub long : length sets ≡ 1024
+  pub table : (P : Program) → Setting P rows atoms k → SubsetTable P atoms k sets s
 
 -- Whether every chain of the component is found in s.
 pub record Tested (rows atoms : List ℕ) (k : ℕ) (s : List ℕ) (r : Bool) : Type 0 where

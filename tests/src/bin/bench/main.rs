@@ -1,8 +1,10 @@
-//! bench: times every operation and prints tables: the count beside clasp, the test of a sequence beside walks over all
-//! chains, reading beside a pass over the same bytes, writing beside a fill of the same buffer. Every answer is checked.
+//! bench: times every operation and prints tables: the count beside clasp, the test of a sequence and the shortest missing
+//! chain beside walks over all chains, reading beside a pass over the same bytes, writing beside a fill of the same buffer.
+//! Every answer is checked.
 //! bench --one FILE: prints the count of the sheet in a file.
 
 mod count;
+mod missing;
 mod reading;
 mod sheets;
 mod text;
@@ -26,6 +28,7 @@ fn measure() -> ! {
     let mut tally = Tally::default();
     count::measure(&mut tally);
     walks::measure(&mut tally);
+    missing::measure(&mut tally);
     reading::measure(&mut tally);
     writing::measure(&mut tally);
     text::measure(&mut tally);

@@ -63,11 +63,12 @@ fn before_w2(call: &Call) -> Option<Answer> {
 }
 
 /// The first level at which the answer stands, if W2 left it as it was: W1 admits choice rules, where there was a refusal by 5,
-/// and W3 brings the lparse text.
+/// W3 brings the lparse text, and W4 the missing chain.
 fn from(call: &Call) -> u32 {
     match call.operation {
         Operation::Program => from(&reference::program_call(call)),
         Operation::Lparse | Operation::LparseProgram => 3,
+        Operation::Missing => 4,
         _ => u32::from(reaches_choice(&call.sheet)),
     }
 }

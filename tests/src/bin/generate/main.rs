@@ -4,6 +4,7 @@ mod cases;
 mod choices;
 mod count;
 mod lparse;
+mod missing;
 mod program;
 mod sequences;
 mod sheets;
@@ -20,4 +21,5 @@ fn main() {
     count::cases().write(folder, "count.txt");
     program::cases().write(folder, "program.txt");
     lparse::cases().write(folder, "lparse.txt");
+    missing::cases().write(folder, "missing.txt");
 }

@@ -1,0 +1,46 @@
+-- `chains::fill` meets its contract, one law for each way through it.
+use borrow.Author.Needs.{needs}
+use Rattle.chains.proofs.Turning.{Reading, reading-start, reading-turn, reading-end, reading-low}
+use Rattle.chains.proofs.fill.Statement.{statement}
+use Rattle.chains.proofs.fill.Tie as tie
+
+abbrev Inv-loop : tie.InvT-loop
+Inv-loop sets₀ rows atoms k q from i₀ sets i = Reading rows atoms k q from i sets
+
+abbrev μ-loop : tie.MeasureT-loop
+μ-loop sets₀ rows atoms k q from i₀ sets i = i
+
+loop-holds : tie.Need-loop-holds Inv-loop μ-loop
+loop-holds c = search (needs, reading-start)
+
+sub-i : tie.Need-sub-i Inv-loop μ-loop
+sub-i c = search needs
+
+byte-at-requires : tie.Need-byte-at-requires Inv-loop μ-loop
+byte-at-requires c κs = search needs
+
+enter-requires : tie.Need-enter-requires Inv-loop μ-loop
+enter-requires c κs = search (needs, reading-low)
+
+loop-less : tie.Need-loop-less Inv-loop μ-loop
+loop-less c = search needs
+
+loop-again : tie.Need-loop-again Inv-loop μ-loop
+loop-again c = search (needs, reading-turn)
+
+returns : tie.Need-returns Inv-loop μ-loop
+returns c = search (needs, reading-end)
+
+pub fill-spec : {M : Type 1} → statement M
+fill-spec =
+    tie.close
+    (tie.spec
+    Inv-loop
+    μ-loop
+    loop-holds
+    sub-i
+    byte-at-requires
+    enter-requires
+    loop-less
+    loop-again
+    returns)

@@ -1,0 +1,6 @@
+pub mod Rows
+pub mod Sets
+pub mod Extensions
+pub mod Extending
+pub mod Starts
+pub mod Found

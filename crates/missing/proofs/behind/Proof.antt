@@ -1,0 +1,48 @@
+-- `missing::behind` meets its contract, one law for each way through it.
+use Prim.Native.Nat.{_-_}
+use borrow.Author.Needs.{needs}
+use lib.ListN.{length}
+use Rattle.missing.proofs.behind.Statement.{statement}
+use Rattle.missing.proofs.Extending.{Passing, passing-start, passing-turn, passing-found, passing-end}
+use Rattle.missing.proofs.behind.Tie as tie
+
+abbrev Inv-loop : tie.InvT-loop
+Inv-loop q from a i₀ i = Passing q from a i
+
+abbrev μ-loop : tie.MeasureT-loop
+μ-loop q from a i₀ i = length q - i
+
+loop-holds : tie.Need-loop-holds Inv-loop μ-loop
+loop-holds c = search (needs, passing-start)
+
+byte-at-requires : tie.Need-byte-at-requires Inv-loop μ-loop
+byte-at-requires c κs = search needs
+
+add-i : tie.Need-add-i Inv-loop μ-loop
+add-i c = search needs
+
+returns : tie.Need-returns Inv-loop μ-loop
+returns c = search (needs, passing-found)
+
+loop-less : tie.Need-loop-less Inv-loop μ-loop
+loop-less c = search needs
+
+loop-again : tie.Need-loop-again Inv-loop μ-loop
+loop-again c = search (needs, passing-turn)
+
+returns-2 : tie.Need-returns-2 Inv-loop μ-loop
+returns-2 c = search (needs, passing-end)
+
+pub behind-spec : {M : Type 1} → statement M
+behind-spec =
+    tie.close
+    (tie.spec
+    Inv-loop
+    μ-loop
+    loop-holds
+    byte-at-requires
+    add-i
+    returns
+    loop-less
+    loop-again
+    returns-2)

@@ -1,0 +1,25 @@
+-- `missing::improved` meets its contract, one law for each way through it.
+use borrow.Author.Needs.{needs}
+use Rattle.missing.proofs.improved.Statement.{statement}
+use Rattle.missing.proofs.Starts.{improved-found, improved-lacking}
+use Rattle.missing.proofs.improved.Tie as tie
+
+found-alone-requires : tie.Need-found-alone-requires
+found-alone-requires c κs = search needs
+
+returns : tie.Need-returns
+returns c = search (needs, improved-found)
+
+component-start-requires : tie.Need-component-start-requires
+component-start-requires c κs = search needs
+
+earlier-requires : tie.Need-earlier-requires
+earlier-requires c κs = search needs
+
+returns-2 : tie.Need-returns-2
+returns-2 c = search (needs, improved-lacking)
+
+pub improved-spec : {M : Type 1} → statement M
+improved-spec =
+    tie.close
+    (tie.spec found-alone-requires returns component-start-requires earlier-requires returns-2)

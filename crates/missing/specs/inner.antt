@@ -1,0 +1,4 @@
+-- What inner functions promise: no public promise rests on it.
+pub mod Lacking
+pub mod Extending
+pub mod Starts
