@@ -1,8 +1,8 @@
-/* How much stack each operation takes, on sheets and sequences that lead through all of its code: the stack of a call is
- * filled with a pattern beforehand. Prints bytes, and for the operations that write words, a text or a chain the length of the
- * longest output. */
+/* How much stack each operation of both services takes, on sheets and sequences that lead through all of its code: the stack of a
+ * call is filled with a pattern beforehand. Prints one table: bytes of stack, and for the operations that write, the length of the
+ * longest output. Every input is given to both services, so what the hub refuses late counts too. */
 #define _GNU_SOURCE
-#include "rulesheet.h"
+#include "rulehub.h"
 #include <stdio.h>
 #include <stdlib.h>
 #include <string.h>
@@ -14,29 +14,58 @@ static uint8_t stack[STACK];
 static ucontext_t here, there;
 static void (*running)(void);
 
+/* The functions of a service. */
+struct service {
+    uint32_t (*read)(const uint8_t *, size_t, uint64_t *, uint64_t *);
+    uint32_t (*body)(const uint8_t *, size_t, uint64_t, uint64_t *, uint64_t *, uint64_t *);
+    uint32_t (*components)(const uint8_t *, size_t, uint8_t *, size_t, uint64_t *);
+    uint32_t (*default_sequence)(const uint8_t *, size_t, uint8_t *, size_t, uint64_t *);
+    uint32_t (*test)(const uint8_t *, size_t, const uint8_t *, size_t);
+    uint32_t (*missing)(const uint8_t *, size_t, const uint8_t *, size_t, uint8_t *, size_t, uint64_t *);
+    uint32_t (*unfolded)(const uint8_t *, size_t, const uint8_t *, size_t, uint32_t *, size_t, uint64_t *);
+    uint32_t (*clauses)(const uint8_t *, size_t, const uint8_t *, size_t, int32_t *, size_t, uint64_t *, uint64_t *,
+                        uint64_t *);
+    uint32_t (*lparse)(const uint8_t *, size_t, uint8_t *, size_t, uint64_t *);
+    uint32_t (*count)(const uint8_t *, size_t, uint64_t *, uint64_t *);
+};
+
+static const struct service services[] = {
+    {rulesheet_read, rulesheet_body, rulesheet_components, rulesheet_default, rulesheet_test, rulesheet_missing,
+     rulesheet_unfolded, rulesheet_clauses, rulesheet_lparse, rulesheet_count},
+    {rulehub_read, rulehub_body, rulehub_components, rulehub_default, rulehub_test, rulehub_missing, rulehub_unfolded,
+     rulehub_clauses, rulehub_lparse, rulehub_count}};
+enum { SERVICES = sizeof services / sizeof *services };
+
+/* What a service takes: atoms, atoms in a component, entries. */
+struct limits {
+    int atoms, component, entries;
+};
+static const struct limits limits[SERVICES] = {{64, 10, 640}, {24, 4, 96}};
+
+static const struct service *service;
 static uint8_t sheet[65536], sequence[643];
 static size_t sheet_len, sequence_len;
 static uint32_t *out;
 static uint64_t numbers[3];
 static uint32_t status;
 
-static void read_call(void) { status = rulesheet_read(sheet, sheet_len, &numbers[0], &numbers[1]); }
-static void body_call(void) { status = rulesheet_body(sheet, sheet_len, 0, &numbers[0], &numbers[1], &numbers[2]); }
-static void components_call(void) { status = rulesheet_components(sheet, sheet_len, (uint8_t *)out, ROOM, numbers); }
-static void default_call(void) { status = rulesheet_default(sheet, sheet_len, (uint8_t *)out, ROOM, numbers); }
-static void test_call(void) { status = rulesheet_test(sheet, sheet_len, sequence, sequence_len); }
+static void read_call(void) { status = service->read(sheet, sheet_len, &numbers[0], &numbers[1]); }
+static void body_call(void) { status = service->body(sheet, sheet_len, 0, &numbers[0], &numbers[1], &numbers[2]); }
+static void components_call(void) { status = service->components(sheet, sheet_len, (uint8_t *)out, ROOM, numbers); }
+static void default_call(void) { status = service->default_sequence(sheet, sheet_len, (uint8_t *)out, ROOM, numbers); }
+static void test_call(void) { status = service->test(sheet, sheet_len, sequence, sequence_len); }
 static void missing_call(void) {
-    status = rulesheet_missing(sheet, sheet_len, sequence, sequence_len, (uint8_t *)out, ROOM, numbers);
+    status = service->missing(sheet, sheet_len, sequence, sequence_len, (uint8_t *)out, ROOM, numbers);
 }
 static void unfolded_call(void) {
-    status = rulesheet_unfolded(sheet, sheet_len, sequence, sequence_len, out, ROOM, numbers);
+    status = service->unfolded(sheet, sheet_len, sequence, sequence_len, out, ROOM, numbers);
 }
 static void clauses_call(void) {
-    status = rulesheet_clauses(sheet, sheet_len, sequence, sequence_len, (int32_t *)out, ROOM, &numbers[0], &numbers[1],
-                               &numbers[2]);
+    status = service->clauses(sheet, sheet_len, sequence, sequence_len, (int32_t *)out, ROOM, &numbers[0], &numbers[1],
+                              &numbers[2]);
 }
-static void lparse_call(void) { status = rulesheet_lparse(sheet, sheet_len, (uint8_t *)out, ROOM, numbers); }
-static void count_call(void) { status = rulesheet_count(sheet, sheet_len, &numbers[0], &numbers[1]); }
+static void lparse_call(void) { status = service->lparse(sheet, sheet_len, (uint8_t *)out, ROOM, numbers); }
+static void count_call(void) { status = service->count(sheet, sheet_len, &numbers[0], &numbers[1]); }
 static void nothing(void) {}
 
 static void enter(void) { running(); }
@@ -100,137 +129,156 @@ static void set_sequence(int length) {
     sequence_len = 3 + length;
 }
 
-/* 128 rules for atom 0 with every atom in both lists, but that the first lacks its head, so that the copies keep rules; a
- * sequence of 577 entries 0 and every other atom: the longest outputs of unfolded and clauses, of sheets with choice rules too. */
-static void longest(void) {
-    begin(64);
-    for (int rule = 0; rule < 128; rule++) {
-        add_rule(0, rule == 0, 64, 0, 64);
-    }
-    end();
+/* So many entries: 0 over and over, then every other atom. */
+static void set_long_sequence(int atoms, int length) {
     memset(sequence, 0, sizeof sequence);
-    set_sequence(640);
-    for (int atom = 1; atom < 64; atom++) {
-        sequence[3 + 576 + atom] = atom;
+    set_sequence(length);
+    for (int atom = 1; atom < atoms; atom++) {
+        sequence[3 + length - atoms + atom] = atom;
     }
 }
 
-/* 128 rules for atom 63 with every atom in both lists: the longest text. */
-static void longest_text(void) {
-    begin(64);
-    for (int rule = 0; rule < 128; rule++) {
-        add_rule(63, 0, 64, 0, 64);
-    }
-    end();
+static void set_default_sequence(void) {
     rulesheet_default(sheet, sheet_len, sequence, sizeof sequence, numbers);
     sequence_len = numbers[0];
 }
 
-/* Six complete components of ten atoms, and rules that negate 16 atoms; the default sequence. */
-static void complete(void) {
-    begin(60);
-    for (int atom = 0; atom < 60; atom++) {
-        add_rule(atom, atom / 10 * 10, atom / 10 * 10 + 10, 0, 0);
+/* 128 rules for atom 0 with every atom in both lists, but that the first lacks its head, so that the copies keep rules; the longest
+ * sequence, with as many entries 0 as can be: the longest outputs of unfolded and clauses, of sheets with choice rules too. */
+static void longest(struct limits most) {
+    begin(most.atoms);
+    for (int rule = 0; rule < 128; rule++) {
+        add_rule(0, rule == 0, most.atoms, 0, most.atoms);
     }
-    for (int atom = 0; atom < 60; atom++) {
+    end();
+    set_long_sequence(most.atoms, most.entries);
+}
+
+/* The same with the most entries of the format. */
+static void too_long(struct limits most) {
+    longest(most);
+    set_long_sequence(most.atoms, 640);
+}
+
+/* 128 rules for the last atom with every atom in both lists: the longest text. */
+static void longest_text(struct limits most) {
+    begin(most.atoms);
+    for (int rule = 0; rule < 128; rule++) {
+        add_rule(most.atoms - 1, 0, most.atoms, 0, most.atoms);
+    }
+    end();
+    set_default_sequence();
+}
+
+/* Complete components, as large as can be, and rules that negate 16 atoms; the default sequence, of which none is longer. */
+static void complete(struct limits most) {
+    int size = most.component;
+    begin(most.atoms);
+    for (int atom = 0; atom < most.atoms; atom++) {
+        int first = atom / size * size;
+        add_rule(atom, first, first + size < most.atoms ? first + size : most.atoms, 0, 0);
+    }
+    for (int atom = 0; atom < most.atoms; atom++) {
         add_rule(atom, 0, 0, 0, 16);
     }
     end();
-    rulesheet_default(sheet, sheet_len, sequence, sizeof sequence, numbers);
-    sequence_len = numbers[0];
+    set_default_sequence();
 }
 
-/* The same with the default sequence but for its last ten entries: it lacks one chain, of ten atoms. */
-static void lacking(void) {
-    complete();
-    set_sequence(590);
+/* The same with the default sequence but for its first round: it lacks one chain, of all atoms of the first component. */
+static void lacking(struct limits most) {
+    complete(most);
+    memmove(sequence + 3, sequence + 3 + most.component, sequence_len - 3 - most.component);
+    set_sequence(sequence_len - 3 - most.component);
 }
 
-/* The same without an entry: it lacks every chain. */
-static void empty(void) {
-    complete();
+/* The same with no entry: it lacks every chain. */
+static void empty(struct limits most) {
+    complete(most);
     set_sequence(0);
 }
 
 /* 16 atoms, each derived where one of the eight behind it is not: many atoms are decided one by one. */
-static void decided(void) {
-    begin(64);
+static void decided(struct limits most) {
+    begin(most.atoms);
     for (int rule = 0; rule < 128; rule++) {
         int other = (rule % 16 + rule / 16 + 1) % 16;
         add_rule(rule % 16, 0, 0, other, other + 1);
     }
     end();
-    set_sequence(64);
-    for (int atom = 0; atom < 64; atom++) {
-        sequence[3 + atom] = atom;
-    }
+    set_long_sequence(most.atoms, most.atoms);
 }
 
-/* One written atom: 63 choice rules and 65 rules for it, so that there are as many rules as can be, all but the first with the
- * atom in both lists; the longest sequence. */
-static void most_rules(void) {
+/* One written atom: as many choice rules for it as can be, and rules, so that there are as many rules as can be, all but the first
+ * with the atom in both lists; the longest sequence. */
+static void most_rules(struct limits most) {
     begin(1);
     for (int record = 0; record < 128; record++) {
-        add_record(record < 63 ? CHOICE : RULE, 0, 0, record > 0, 0, 1);
+        add_record(record < most.atoms - 1 ? CHOICE : RULE, 0, 0, record > 0, 0, 1);
     }
     end();
-    memset(sequence, 0, sizeof sequence);
-    set_sequence(640);
-    for (int atom = 1; atom < 64; atom++) {
-        sequence[3 + 576 + atom] = atom;
-    }
+    set_long_sequence(most.atoms, most.entries);
 }
 
-/* 16 free heads: 65,536 settled states. Rules for 32 other atoms hang on them, in components of eight. */
-static void chosen(void) {
-    begin(48);
-    for (int head = 0; head < 16; head++) {
+/* Free heads, a quarter of the atoms with the fresh ones: 65,536 settled states, or 64. Rules for the other half hang on them, in
+ * components of eight, or of four. */
+static void chosen(struct limits most) {
+    int heads = most.atoms / 4, size = most.atoms == 64 ? 8 : most.component;
+    begin(3 * heads);
+    for (int head = 0; head < heads; head++) {
         add_record(CHOICE, head, 0, 0, 0, 0);
     }
-    for (int rule = 0; rule < 112; rule++) {
-        int atom = 16 + rule % 32;
-        int other = rule < 32 ? atom / 8 * 8 + (atom + 1) % 8 : rule % 16;
-        add_rule(atom, other, other + 1, rule / 8, rule / 8 + 1);
+    for (int rule = 0; rule < 128 - heads; rule++) {
+        int place = rule % (2 * heads);
+        int in_component = heads + place / size * size + (place + 1) % size;
+        int other = rule < 2 * heads ? in_component : rule % heads;
+        add_rule(heads + place, other, other + 1, rule / 8 % heads, rule / 8 % heads + 1);
     }
     end();
-    rulesheet_default(sheet, sheet_len, sequence, sizeof sequence, numbers);
-    sequence_len = numbers[0];
+    set_default_sequence();
 }
 
 int main(void) {
     static const struct {
         const char *name;
         void (*call)(void);
-        const char *unit; /* of an output whose length is printed */
+        const char *unit; /* of an output */
     } calls[] = {{"read", read_call, NULL},
                  {"body", body_call, NULL},
-                 {"components", components_call, NULL},
-                 {"default", default_call, NULL},
+                 {"components", components_call, "bytes"},
+                 {"default", default_call, "bytes"},
                  {"test", test_call, NULL},
                  {"missing", missing_call, "bytes"},
                  {"unfolded", unfolded_call, "words"},
                  {"clauses", clauses_call, "words"},
                  {"lparse", lparse_call, "bytes"},
                  {"count", count_call, NULL}};
-    static void (*const inputs[])(void) = {longest, longest_text, complete, lacking, empty, decided, most_rules, chosen};
+    static void (*const inputs[])(struct limits) = {longest, too_long, longest_text, complete, lacking,
+                                                    empty,   decided,  most_rules,   chosen};
     out = malloc(sizeof *out * ROOM);
     if (out == NULL) {
         return 1;
     }
+    printf("%-10s %15s %15s %15s %15s\n", "", "office: stack", "hub: stack", "office: output", "hub: output");
     size_t frame = used(nothing);
     for (size_t call = 0; call < sizeof calls / sizeof *calls; call++) {
-        size_t most = 0;
-        uint64_t written = 0;
-        for (size_t input = 0; input < sizeof inputs / sizeof *inputs; input++) {
-            inputs[input]();
-            size_t size = used(calls[call].call) - frame;
-            most = size > most ? size : most;
-            written = status == 0 && numbers[0] > written ? numbers[0] : written;
+        size_t most[SERVICES] = {0};
+        uint64_t written[SERVICES] = {0};
+        for (size_t input = 0; input < SERVICES * sizeof inputs / sizeof *inputs; input++) {
+            inputs[input / SERVICES](limits[input % SERVICES]);
+            for (size_t which = 0; which < SERVICES; which++) {
+                service = &services[which];
+                size_t size = used(calls[call].call) - frame;
+                most[which] = size > most[which] ? size : most[which];
+                written[which] = status == 0 && numbers[0] > written[which] ? numbers[0] : written[which];
+            }
         }
-        printf("%-10s %7zu bytes of stack\n", calls[call].name, most);
+        printf("%-10s %9zu bytes %9zu bytes", calls[call].name, most[0], most[1]);
         if (calls[call].unit != NULL) {
-            printf("%-10s %7llu %s\n", calls[call].name, (unsigned long long)written, calls[call].unit);
+            printf(" %9llu %s %9llu %s", (unsigned long long)written[0], calls[call].unit, (unsigned long long)written[1],
+                   calls[call].unit);
         }
+        printf("\n");
     }
     return 0;
 }

@@ -1,11 +1,18 @@
 //! Sheets of many shapes, and damaged ones.
 
+use crate::limits::{HUB, MOST_RECORDS, OFFICE};
 use crate::random::Random;
 use crate::sheet::{choice, constraint, rule, set_length, Record, Sheet, CHOICE, RULE};
 
-/// The most atoms, fresh ones included.
-pub const MOST_ATOMS: usize = 64;
-const MOST_RECORDS: usize = 128;
+/// The atoms below n.
+pub fn upto(n: u8) -> Vec<u8> {
+    (0..n).collect()
+}
+
+/// The example of the service's description.
+pub fn sheet_a() -> Sheet {
+    Sheet::new(3, vec![rule(0, &[1], &[]), rule(1, &[0], &[]), rule(0, &[], &[2]), rule(2, &[], &[0])])
+}
 
 /// Rules over a set of atoms whose positive graph is strongly connected.
 #[derive(Clone, Copy, Debug)]
@@ -31,7 +38,7 @@ impl Shape {
     pub fn rules(self, random: &mut Random, atoms: &[u8]) -> Vec<Record> {
         match self {
             Shape::Cycle => cycle(atoms),
-            Shape::Complete => atoms.iter().map(|&head| rule(head, &others(atoms, head), &[])).collect(),
+            Shape::Complete => complete(atoms),
             Shape::CompleteSplit => {
                 let edges = |&head: &u8| others(atoms, head).into_iter().map(move |other| rule(head, &[other], &[]));
                 atoms.iter().flat_map(edges).collect()
@@ -46,6 +53,17 @@ impl Shape {
 pub fn cycle(atoms: &[u8]) -> Vec<Record> {
     let next = atoms.iter().cycle().skip(1);
     atoms.iter().zip(next).map(|(&atom, &next)| rule(next, &[atom], &[])).collect()
+}
+
+/// Each atom if every other.
+pub fn complete(atoms: &[u8]) -> Vec<Record> {
+    atoms.iter().map(|&head| rule(head, &others(atoms, head), &[])).collect()
+}
+
+/// So many complete components of a size, side by side.
+pub fn complete_components(number: u8, size: u8) -> Sheet {
+    let block = |place: u8| (place * size..(place + 1) * size).collect::<Vec<u8>>();
+    Sheet::new(number * size, (0..number).flat_map(|place| complete(&block(place))).collect())
 }
 
 fn both_ways(a: u8, b: u8) -> [Record; 2] {
@@ -79,7 +97,7 @@ fn with(atoms: &[u8], atom: u8) -> Vec<u8> {
 
 /// So many of the atoms below n, in random order.
 pub fn choose(random: &mut Random, n: usize, number: usize) -> Vec<u8> {
-    let mut atoms: Vec<u8> = (0..n as u8).collect();
+    let mut atoms = upto(n as u8);
     random.shuffle(&mut atoms);
     atoms.truncate(number);
     atoms
@@ -181,7 +199,7 @@ impl Style {
     }
 
     fn constraint(&self, random: &mut Random, n: usize) -> Record {
-        let atoms: Vec<u8> = (0..n as u8).collect();
+        let atoms = upto(n as u8);
         constraint(&random.some_of(&atoms, self.body), &random.some_of(&atoms, self.body))
     }
 
@@ -224,12 +242,57 @@ pub fn any_sheet(random: &mut Random) -> Sheet {
         add_choices(random, &mut sheet);
     }
     if random.one_in(8) {
-        fill_with_atoms(random, &mut sheet);
+        fill_with_atoms(random, &mut sheet, OFFICE.atoms);
     }
     if random.one_in(100) {
         sheet = with_decided(random, 17);
     }
     sheet
+}
+
+/// A sheet about as large as the hub takes.
+pub fn hub_sheet(random: &mut Random) -> Sheet {
+    let shape = *random.pick(&Shape::ALL);
+    let size = random.between(2, HUB.component + 1);
+    let mut sheet = match random.below(5) {
+        0 => connected(random, shape, size),
+        1 => barely_entered(random, shape, size),
+        2 => side_by_side(random),
+        _ => {
+            let negated = if random.one_in(10) { 20 } else { 8 };
+            Style { atoms: HUB.atoms, records: 40, component: HUB.component, negated, body: 3 }.sheet(random)
+        }
+    };
+    if random.one_in(3) {
+        add_pairs(random, &mut sheet);
+    }
+    if random.one_in(2) {
+        add_choices(random, &mut sheet);
+    }
+    if random.one_in(2) {
+        fill_with_atoms(random, &mut sheet, HUB.atoms);
+    }
+    sheet
+}
+
+/// Five or six components of four atoms, of which one may have five. With six the default sequence has 96 entries or a few more.
+fn side_by_side(random: &mut Random) -> Sheet {
+    let number = random.between(5, 6);
+    let mut sizes = vec![HUB.component; number];
+    sizes[random.below(number)] += usize::from(random.one_in(4));
+    let n = sizes.iter().sum();
+    let atoms = choose(random, n, n);
+    let mut rest = &atoms[..];
+    let mut records = Vec::new();
+    for size in sizes {
+        let (inside, after) = rest.split_at(size);
+        records.extend(random.pick(&Shape::ALL).rules(random, inside));
+        // A way in, or none.
+        records.extend(random.some_of(inside, 1).iter().map(|&head| rule(head, &[], &random.some_of(&atoms, 2))));
+        rest = after;
+    }
+    random.shuffle(&mut records);
+    Sheet::new(n as u8, records)
 }
 
 /// Pairs of atoms, each of which holds if the other does not.
@@ -262,7 +325,7 @@ pub fn add_choices(random: &mut Random, sheet: &mut Sheet) {
 
 /// A choice rule with a form of its own.
 fn any_choice(random: &mut Random, sheet: &Sheet) -> Record {
-    let atoms: Vec<u8> = (0..sheet.atoms).collect();
+    let atoms = upto(sheet.atoms);
     let head = *random.pick(&atoms);
     let some = random.some_of(&atoms, 2);
     match random.below(6) {
@@ -277,10 +340,11 @@ fn any_choice(random: &mut Random, sheet: &Sheet) -> Record {
     }
 }
 
-/// So many atoms without rules that there are 63, 64 or 65 with the fresh ones, if there are not too many already.
-pub fn fill_with_atoms(random: &mut Random, sheet: &mut Sheet) {
-    let total = random.between(MOST_ATOMS - 1, MOST_ATOMS + 1);
-    let atoms = total.saturating_sub(sheet.choices().count()).clamp(sheet.atoms.into(), MOST_ATOMS);
+/// So many atoms without rules that there are as many as are taken with the fresh ones, one less or one more, if there are not too
+/// many already.
+fn fill_with_atoms(random: &mut Random, sheet: &mut Sheet, most: usize) {
+    let total = random.between(most - 1, most + 1);
+    let atoms = total.saturating_sub(sheet.choices().count()).clamp(sheet.atoms.into(), OFFICE.atoms);
     sheet.atoms = atoms as u8;
 }
 

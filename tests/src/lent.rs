@@ -1,4 +1,4 @@
-//! Memory lent to the library: filled with a pattern and with guards on both sides, so that every change shows.
+//! Memory lent to a library: filled with a pattern and with guards on both sides, so that every change shows.
 
 const GUARD: usize = 16;
 

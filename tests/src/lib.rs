@@ -1,15 +1,19 @@
 //! Tests of the rule sheet service from outside: an independent reference implementation, vector files, generated
-//! inputs, and the calls to the library.
+//! inputs, and the calls to the libraries.
 
-#[cfg(feature = "library")]
-#[path = "../../include/rulesheet.rs"]
-pub mod binding;
 pub mod inputs;
 #[cfg(feature = "library")]
 pub mod library;
+pub mod limits;
 pub mod random;
 pub mod reference;
 pub mod report;
+#[cfg(feature = "library")]
+#[path = "../../include/rulehub.rs"]
+pub mod rulehub;
+#[cfg(feature = "library")]
+#[path = "../../include/rulesheet.rs"]
+pub mod rulesheet;
 pub mod sequences;
 pub mod service;
 pub mod sheet;

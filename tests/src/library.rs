@@ -1,30 +1,57 @@
-//! The library behind include/rulesheet.h. Every call checks that memory which the answer leaves alone is untouched.
+//! The libraries behind include/rulesheet.h and include/rulehub.h. Every call checks that memory which the answer leaves alone is
+//! untouched.
 
-use crate::binding::raw::{
-    rulesheet_body, rulesheet_clauses, rulesheet_components, rulesheet_count, rulesheet_default, rulesheet_lparse,
-    rulesheet_missing, rulesheet_read, rulesheet_test, rulesheet_unfolded,
-};
 use crate::lent::{Element, Lent, Unchanged};
-use crate::service::{Answer, Call, Operation, Service};
+use crate::service::{Answer, Call, Host, Operation, Service};
+use crate::{rulehub, rulesheet};
 use std::io::Write;
 use std::path::{Path, PathBuf};
 use std::process::{Command, Stdio};
 use std::thread;
 
+type Numbers = unsafe extern "C" fn(*const u8, usize, *mut u64, *mut u64) -> u32;
+type Body = unsafe extern "C" fn(*const u8, usize, u64, *mut u64, *mut u64, *mut u64) -> u32;
+type Test = unsafe extern "C" fn(*const u8, usize, *const u8, usize) -> u32;
 type Writer = unsafe extern "C" fn(*const u8, usize, *mut u8, usize, *mut u64) -> u32;
 type SequenceWriter<T> = unsafe extern "C" fn(*const u8, usize, *const u8, usize, *mut T, usize, *mut u64) -> u32;
+type Clauses =
+    unsafe extern "C" fn(*const u8, usize, *const u8, usize, *mut i32, usize, *mut u64, *mut u64, *mut u64) -> u32;
+
+/// The functions of a library.
+struct Functions {
+    read: Numbers,
+    body: Body,
+    components: Writer,
+    default: Writer,
+    test: Test,
+    missing: SequenceWriter<u8>,
+    unfolded: SequenceWriter<u32>,
+    clauses: Clauses,
+    lparse: Writer,
+    count: Numbers,
+}
+
+macro_rules! functions {
+    ($binding:ident) => {{
+        use $binding::raw::*;
+        Functions { read, body, components, default, test, missing, unfolded, clauses, lparse, count }
+    }};
+}
+
+const OFFICE: Functions = functions!(rulesheet);
+const HUB: Functions = functions!(rulehub);
 
 /// What is lent where a vector names no room and the answer needs none.
 const SPARE: usize = 1_000;
 
-pub struct Library {
+pub struct Libraries {
     /// The folder of the programs.
     programs: PathBuf,
 }
 
-impl Library {
-    pub fn new() -> Library {
-        Library { programs: PathBuf::from(concat!(env!("CARGO_MANIFEST_DIR"), "/../target/bin")) }
+impl Libraries {
+    pub fn new() -> Libraries {
+        Libraries { programs: PathBuf::from(concat!(env!("CARGO_MANIFEST_DIR"), "/../target/bin")) }
     }
 
     /// The program behind an operation that runs one.
@@ -37,13 +64,13 @@ impl Library {
     }
 }
 
-impl Default for Library {
-    fn default() -> Library {
-        Library::new()
+impl Default for Libraries {
+    fn default() -> Libraries {
+        Libraries::new()
     }
 }
 
-impl Service for Library {
+impl Service for Libraries {
     fn offers(&self, operation: Operation) -> bool {
         self.program(operation).is_none_or(|program| program.exists())
     }
@@ -55,17 +82,21 @@ impl Service for Library {
         let sheet = Input::new(&call.sheet);
         let sequence = Input::new(&call.sequence);
         let room = call.room.unwrap_or(SPARE);
+        let functions = match call.host {
+            Host::Office => OFFICE,
+            Host::Hub => HUB,
+        };
         let answer = match call.operation {
-            Operation::Read => read(&sheet),
-            Operation::Body => body(&sheet, call.number),
-            Operation::Components => bytes(rulesheet_components, Answer::Bytes, &sheet, room),
-            Operation::Default => bytes(rulesheet_default, Answer::Bytes, &sheet, room),
-            Operation::Test => test(&sheet, &sequence),
-            Operation::Unfolded => elements(rulesheet_unfolded, Answer::Unfolded, &sheet, &sequence, room),
-            Operation::Clauses => clauses(&sheet, &sequence, room),
-            Operation::Count => count(&sheet),
-            Operation::Lparse => bytes(rulesheet_lparse, Answer::Lparse, &sheet, room),
-            Operation::Missing => elements(rulesheet_missing, Answer::Missing, &sheet, &sequence, room),
+            Operation::Read => numbers(functions.read, |[atoms, records]| Answer::Read { atoms, records }, &sheet),
+            Operation::Body => body(functions.body, &sheet, call.number),
+            Operation::Components => bytes(functions.components, Answer::Bytes, &sheet, room),
+            Operation::Default => bytes(functions.default, Answer::Bytes, &sheet, room),
+            Operation::Test => test(functions.test, &sheet, &sequence),
+            Operation::Unfolded => elements(functions.unfolded, Answer::Unfolded, &sheet, &sequence, room),
+            Operation::Clauses => clauses(functions.clauses, &sheet, &sequence, room),
+            Operation::Count => numbers(functions.count, |[count, verdict]| Answer::Count { count, verdict }, &sheet),
+            Operation::Lparse => bytes(functions.lparse, Answer::Lparse, &sheet, room),
+            Operation::Missing => elements(functions.missing, Answer::Missing, &sheet, &sequence, room),
             Operation::Program | Operation::LparseProgram => unreachable!("it runs a program"),
         }?;
         if sheet.read_back() != call.sheet || sequence.read_back() != call.sequence {
@@ -75,7 +106,7 @@ impl Service for Library {
     }
 }
 
-/// Bytes that the library may read, in memory of just their length.
+/// Bytes that a library may read, in memory of just their length.
 struct Input {
     start: *mut [u8],
 }
@@ -112,19 +143,19 @@ fn refused(status: u32, lent: &[&dyn Unchanged]) -> Result<Answer, String> {
     Ok(Answer::Refused(status))
 }
 
-fn read(sheet: &Input) -> Result<Answer, String> {
-    let (mut atoms, mut records) = (Lent::one(), Lent::one());
-    match unsafe { rulesheet_read(sheet.pointer(), sheet.length(), atoms.pointer(), records.pointer()) } {
-        0 => Ok(Answer::Read { atoms: atoms.value()?, records: records.value()? }),
-        status => refused(status, &[&atoms, &records]),
+fn numbers(function: Numbers, answer: fn([u64; 2]) -> Answer, sheet: &Input) -> Result<Answer, String> {
+    let (mut first, mut second) = (Lent::one(), Lent::one());
+    match unsafe { function(sheet.pointer(), sheet.length(), first.pointer(), second.pointer()) } {
+        0 => Ok(answer([first.value()?, second.value()?])),
+        status => refused(status, &[&first, &second]),
     }
 }
 
-fn body(sheet: &Input, number: u64) -> Result<Answer, String> {
+fn body(function: Body, sheet: &Input, number: u64) -> Result<Answer, String> {
     let (mut positives, mut offset, mut length) = (Lent::one(), Lent::one(), Lent::one());
     let status = unsafe {
         let (p, o, l) = (positives.pointer(), offset.pointer(), length.pointer());
-        rulesheet_body(sheet.pointer(), sheet.length(), number, p, o, l)
+        function(sheet.pointer(), sheet.length(), number, p, o, l)
     };
     if status != 0 {
         return refused(status, &[&positives, &offset, &length]);
@@ -144,8 +175,8 @@ fn bytes(function: Writer, answer: fn(Vec<u8>) -> Answer, sheet: &Input, room: u
     }
 }
 
-fn test(sheet: &Input, sequence: &Input) -> Result<Answer, String> {
-    match unsafe { rulesheet_test(sheet.pointer(), sheet.length(), sequence.pointer(), sequence.length()) } {
+fn test(function: Test, sheet: &Input, sequence: &Input) -> Result<Answer, String> {
+    match unsafe { function(sheet.pointer(), sheet.length(), sequence.pointer(), sequence.length()) } {
         0 => Ok(Answer::Passed),
         status => Ok(Answer::Refused(status)),
     }
@@ -169,36 +200,18 @@ fn elements<T: Element>(
     }
 }
 
-fn clauses(sheet: &Input, sequence: &Input, room: usize) -> Result<Answer, String> {
+fn clauses(function: Clauses, sheet: &Input, sequence: &Input, room: usize) -> Result<Answer, String> {
     let (mut out, mut written) = (Lent::new(room), Lent::one());
     let (mut variables, mut number) = (Lent::one(), Lent::one());
     let status = unsafe {
         let (o, w, v, n) = (out.pointer(), written.pointer(), variables.pointer(), number.pointer());
-        rulesheet_clauses(
-            sheet.pointer(),
-            sheet.length(),
-            sequence.pointer(),
-            sequence.length(),
-            o,
-            out.room(),
-            w,
-            v,
-            n,
-        )
+        function(sheet.pointer(), sheet.length(), sequence.pointer(), sequence.length(), o, out.room(), w, v, n)
     };
     if status != 0 {
         return refused(status, &[&out, &written, &variables, &number]);
     }
     let words = out.output(written.value()?)?;
     Ok(Answer::Clauses { words, variables: variables.value()?, clauses: number.value()? })
-}
-
-fn count(sheet: &Input) -> Result<Answer, String> {
-    let (mut count, mut verdict) = (Lent::one(), Lent::one());
-    match unsafe { rulesheet_count(sheet.pointer(), sheet.length(), count.pointer(), verdict.pointer()) } {
-        0 => Ok(Answer::Count { count: count.value()?, verdict: verdict.value()? }),
-        status => refused(status, &[&count, &verdict]),
-    }
 }
 
 fn run(program: &Path, input: &[u8]) -> Result<Answer, String> {

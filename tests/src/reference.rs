@@ -1,4 +1,4 @@
-//! A plain implementation of every operation, from the description of the format alone.
+//! A plain implementation of every operation of both services, from the description of the format alone.
 
 mod chains;
 mod choices;
@@ -17,14 +17,15 @@ pub use missing::{first_missing, shortest_missing};
 pub use questions::{sequence as read_sequence, sheet as read_sheet};
 pub use unfolded::Unfolded;
 
+use crate::limits::OFFICE;
 use crate::service::{Answer, Call, Operation, Service};
 use crate::sheet::{sequence_bytes, Sheet};
+use questions::ask;
 use states::{answer_sets, decided};
 
 /// A refusal: the number of the first question whose answer is no.
 pub type Refusal = u32;
 
-const LARGEST_COMPONENT: usize = 10;
 const MOST_DECIDED: usize = 16;
 /// What a program reads, in bytes.
 const PROGRAM_INPUT: usize = 65_536;
@@ -55,16 +56,16 @@ pub type Derivation = fn(&Sheet, &Graph, &[u8]) -> Unfolded;
 /// The answer by another derivation: `Unfolded::unshortened` gives that before W2.
 pub fn answer_by(derivation: Derivation, call: &Call) -> Answer {
     let answer = match call.operation {
-        Operation::Read => read(&call.sheet),
-        Operation::Body => body(&call.sheet, call.number),
-        Operation::Components => components(&call.sheet),
-        Operation::Default => default(&call.sheet),
-        Operation::Test => test(&call.sheet, &call.sequence),
-        Operation::Unfolded => unfold(derivation, &call.sheet, &call.sequence).map(unfolded),
-        Operation::Clauses => unfold(derivation, &call.sheet, &call.sequence).map(clauses),
-        Operation::Count => count(&call.sheet),
-        Operation::Lparse => lparse(&call.sheet),
-        Operation::Missing => missing(&call.sheet, &call.sequence),
+        Operation::Read => read(call),
+        Operation::Body => body(call),
+        Operation::Components => components(call),
+        Operation::Default => default(call),
+        Operation::Test => test(call),
+        Operation::Unfolded => unfold(derivation, call).map(unfolded),
+        Operation::Clauses => unfold(derivation, call).map(clauses),
+        Operation::Count => count(call),
+        Operation::Lparse => lparse(call),
+        Operation::Missing => missing(call),
         Operation::Program | Operation::LparseProgram => Ok(Answer::Text(printed(derivation, call))),
     };
     within(answer.unwrap_or_else(Answer::Refused), call.room)
@@ -78,76 +79,72 @@ pub fn within(answer: Answer, room: Option<usize>) -> Answer {
     }
 }
 
-/// Questions 1 to 6, 13 and 7.
-fn accepted(bytes: &[u8]) -> Result<(Sheet, Graph), Refusal> {
-    let sheet = questions::sheet(bytes)?;
+/// Questions 1 to 6, 13, 7 and 15. As 16, 15 gets a yes of the office wherever it is asked.
+fn accepted(call: &Call) -> Result<(Sheet, Graph), Refusal> {
+    let sheet = questions::sheet(&call.sheet)?;
     let graph = Graph::new(&sheet);
-    if graph.components().any(|component| component.len() > LARGEST_COMPONENT) {
-        return Err(7);
-    }
+    let largest = graph.components().map(|component| component.len()).max().unwrap_or(0);
+    let limits = call.host.limits();
+    ask(7, largest <= OFFICE.component)?;
+    ask(15, sheet.all_atoms() <= limits.atoms && largest <= limits.component)?;
     Ok((sheet, graph))
 }
 
-/// Questions 1 to 6, 13, 7 and 8.
-fn well_formed(sheet: &[u8], sequence: &[u8]) -> Result<(Sheet, Graph, Vec<u8>), Refusal> {
-    let (sheet, graph) = accepted(sheet)?;
-    let entries = questions::sequence(sequence, sheet.all_atoms() as u8)?;
+/// Questions 1 to 6, 13, 7, 15, 8 and 16.
+fn well_formed(call: &Call) -> Result<(Sheet, Graph, Vec<u8>), Refusal> {
+    let (sheet, graph) = accepted(call)?;
+    let entries = questions::sequence(&call.sequence, sheet.all_atoms() as u8)?;
+    ask(16, entries.len() <= call.host.limits().entries)?;
     Ok((sheet, graph, entries))
 }
 
-/// Questions 1 to 6, 13, and 7 to 9.
-fn accepted_together(sheet: &[u8], sequence: &[u8]) -> Result<(Sheet, Graph, Vec<u8>), Refusal> {
-    let (sheet, graph, entries) = well_formed(sheet, sequence)?;
-    if !all_found(&graph, &entries) {
-        return Err(9);
-    }
+/// Questions 1 to 6, 13, 7, 15, 8, 16 and 9.
+fn accepted_together(call: &Call) -> Result<(Sheet, Graph, Vec<u8>), Refusal> {
+    let (sheet, graph, entries) = well_formed(call)?;
+    ask(9, all_found(&graph, &entries))?;
     Ok((sheet, graph, entries))
 }
 
-fn read(sheet: &[u8]) -> Result<Answer, Refusal> {
-    let (sheet, _) = accepted(sheet)?;
+fn read(call: &Call) -> Result<Answer, Refusal> {
+    let (sheet, _) = accepted(call)?;
     Ok(Answer::Read { atoms: sheet.atoms.into(), records: sheet.records.len() as u64 })
 }
 
-fn body(bytes: &[u8], number: u64) -> Result<Answer, Refusal> {
-    let (sheet, _) = accepted(bytes)?;
-    if number >= sheet.records.len() as u64 {
-        return Err(12);
-    }
-    let number = number as usize;
+fn body(call: &Call) -> Result<Answer, Refusal> {
+    let (sheet, _) = accepted(call)?;
+    ask(12, call.number < sheet.records.len() as u64)?;
+    let number = call.number as usize;
     let record = &sheet.records[number];
     let start = sheet.record_at(number) + 4;
     let slice = [&record.positives[..], &record.negatives[..]].concat();
     Ok(Answer::Body { positives: record.positives.len() as u64, slice, offset: start as u64 })
 }
 
-fn components(sheet: &[u8]) -> Result<Answer, Refusal> {
-    let (_, graph) = accepted(sheet)?;
+fn components(call: &Call) -> Result<Answer, Refusal> {
+    let (_, graph) = accepted(call)?;
     Ok(Answer::Bytes(graph.atoms().map(|atom| graph.smallest(atom)).collect()))
 }
 
-fn default(sheet: &[u8]) -> Result<Answer, Refusal> {
-    let (_, graph) = accepted(sheet)?;
+fn default(call: &Call) -> Result<Answer, Refusal> {
+    let (_, graph) = accepted(call)?;
     Ok(Answer::Bytes(sequence_bytes(&graph.default_sequence())))
 }
 
-fn test(sheet: &[u8], sequence: &[u8]) -> Result<Answer, Refusal> {
-    accepted_together(sheet, sequence).map(|_| Answer::Passed)
+fn test(call: &Call) -> Result<Answer, Refusal> {
+    accepted_together(call).map(|_| Answer::Passed)
 }
 
 /// Question 14 is answered as 9 is, so that the chains are listed only where one is missing: a complete component of ten has ten
 /// million.
-fn missing(sheet: &[u8], sequence: &[u8]) -> Result<Answer, Refusal> {
-    let (_, graph, entries) = well_formed(sheet, sequence)?;
-    if all_found(&graph, &entries) {
-        return Err(14);
-    }
+fn missing(call: &Call) -> Result<Answer, Refusal> {
+    let (_, graph, entries) = well_formed(call)?;
+    ask(14, !all_found(&graph, &entries))?;
     Ok(Answer::Missing(first_missing(&graph, &entries).expect("a chain is missing")))
 }
 
 /// The unfolded program of a sheet and a sequence that are accepted together.
-pub fn unfold(derivation: Derivation, sheet: &[u8], sequence: &[u8]) -> Result<Unfolded, Refusal> {
-    let (sheet, graph, entries) = accepted_together(sheet, sequence)?;
+pub fn unfold(derivation: Derivation, call: &Call) -> Result<Unfolded, Refusal> {
+    let (sheet, graph, entries) = accepted_together(call)?;
     Ok(derivation(&sheet, &graph, &entries))
 }
 
@@ -162,21 +159,19 @@ fn clauses(unfolded: Unfolded) -> Answer {
     Answer::Clauses { words, variables: unfolded.variables().into(), clauses: number }
 }
 
-fn count(sheet: &[u8]) -> Result<Answer, Refusal> {
-    let (sheet, _) = accepted(sheet)?;
-    if decided(&sheet).len() > MOST_DECIDED {
-        return Err(11);
-    }
+fn count(call: &Call) -> Result<Answer, Refusal> {
+    let (sheet, _) = accepted(call)?;
+    ask(11, decided(&sheet).len() <= MOST_DECIDED)?;
     let count = answer_sets(&sheet).len() as u64;
     Ok(Answer::Count { count, verdict: count.min(2) })
 }
 
-fn lparse(sheet: &[u8]) -> Result<Answer, Refusal> {
-    let (sheet, _) = accepted(sheet)?;
+fn lparse(call: &Call) -> Result<Answer, Refusal> {
+    let (sheet, _) = accepted(call)?;
     Ok(Answer::Lparse(lparse_text(&sheet).into_bytes()))
 }
 
-/// The call that a program makes. To the clause program the length field divides the sheet from the sequence.
+/// The call that a program makes, to the office. To the clause program the length field divides the sheet from the sequence.
 pub fn program_call(program: &Call) -> Call {
     let input = &program.sheet[..program.sheet.len().min(PROGRAM_INPUT)];
     if program.operation == Operation::LparseProgram {

@@ -1,6 +1,6 @@
 //! What a run of tests came to.
 
-use crate::service::{Answer, Operation};
+use crate::service::{Answer, Call, Host, Operation};
 use std::collections::BTreeMap;
 use std::fmt;
 
@@ -27,21 +27,21 @@ impl Tally {
     }
 }
 
-/// How often each kind of answer came up, by operation.
+/// How often each kind of answer came up, by service and operation.
 #[derive(Default)]
-pub struct Statistics(BTreeMap<Operation, BTreeMap<String, usize>>);
+pub struct Statistics(BTreeMap<(Host, Operation), BTreeMap<String, usize>>);
 
 impl Statistics {
-    pub fn add(&mut self, operation: Operation, answer: &Answer) {
-        *self.0.entry(operation).or_default().entry(answer.kind()).or_default() += 1;
+    pub fn add(&mut self, call: &Call, answer: &Answer) {
+        *self.0.entry((call.host, call.operation)).or_default().entry(answer.kind()).or_default() += 1;
     }
 }
 
 impl fmt::Display for Statistics {
     fn fmt(&self, f: &mut fmt::Formatter) -> fmt::Result {
-        for (operation, kinds) in &self.0 {
+        for ((host, operation), kinds) in &self.0 {
             let kinds: Vec<String> = kinds.iter().map(|(kind, number)| format!("{kind}: {number}")).collect();
-            writeln!(f, "    {}: {}", operation.name(), kinds.join(", "))?;
+            writeln!(f, "    {}: {}", host.name_of(*operation), kinds.join(", "))?;
         }
         Ok(())
     }

@@ -1,11 +1,10 @@
 //! Sequences for a sheet: passing ones, nearly passing ones, malformed ones.
 
 use crate::inputs::{flip_bit, truncate};
+use crate::limits::{HUB, OFFICE};
 use crate::random::Random;
 use crate::reference::{all_found, Graph};
 use crate::sheet::{sequence_bytes, Sheet};
-
-pub const MOST_ENTRIES: usize = 640;
 
 /// The components' parts of the default sequence, mixed at random; each part keeps its order.
 pub fn mixed(random: &mut Random, graph: &Graph) -> Vec<u8> {
@@ -72,7 +71,7 @@ pub fn thinned(random: &mut Random, graph: &Graph) -> Vec<u8> {
 pub fn lengthened(random: &mut Random, graph: &Graph, entries: &[u8], number: usize) -> Vec<u8> {
     let atoms: Vec<u8> = graph.atoms().collect();
     let mut longer = entries.to_vec();
-    for _ in 0..number.min(MOST_ENTRIES - entries.len()) {
+    for _ in 0..number.min(OFFICE.entries - entries.len()) {
         if !atoms.is_empty() {
             longer.insert(random.between(0, longer.len()), *random.pick(&atoms));
         }
@@ -89,7 +88,7 @@ pub fn padded(entries: &[u8], number: usize) -> Vec<u8> {
 pub fn delayed(random: &mut Random, graph: &Graph, entries: &[u8], number: usize) -> Vec<u8> {
     let mut few = random.some_of(&graph.atoms().collect::<Vec<_>>(), 4);
     random.shuffle(&mut few);
-    let front = few.iter().cycle().take(number.min(MOST_ENTRIES - entries.len()));
+    let front = few.iter().cycle().take(number.min(OFFICE.entries - entries.len()));
     front.chain(entries).copied().collect()
 }
 
@@ -102,7 +101,7 @@ pub fn malformed(atoms: u8, entries: &[u8]) -> Vec<Vec<u8>> {
         changed
     };
     let with_entry = |entry: u8| sequence_bytes(&[entries, &[entry]].concat());
-    let mut long = sequence_bytes(&vec![0; MOST_ENTRIES + 1]);
+    let mut long = sequence_bytes(&vec![0; OFFICE.entries + 1]);
     let mut all = vec![
         vec![],
         vec![1],
@@ -133,6 +132,23 @@ pub fn malformed(atoms: u8, entries: &[u8]) -> Vec<Vec<u8>> {
 pub fn without_fresh(random: &mut Random, sheet: &Sheet, entries: &[u8]) -> Vec<u8> {
     let none = random.one_in(2);
     entries.iter().copied().filter(|&entry| entry < sheet.atoms || !none && random.one_in(2)).collect()
+}
+
+/// About as many entries as the hub or the format takes, or as one byte can say. They may lack a chain, and one of them may be no
+/// atom.
+pub fn nearly_too_many(random: &mut Random, graph: &Graph) -> Vec<u8> {
+    let most = *random.pick(&[HUB.entries, HUB.entries, 256, OFFICE.entries]);
+    let number = random.between(most - 1, most + 2);
+    let atoms: Vec<u8> = graph.atoms().collect();
+    let mut entries = if random.one_in(4) { thinned(random, graph) } else { mixed(random, graph) };
+    while !atoms.is_empty() && entries.len() < number {
+        entries.insert(random.between(0, entries.len()), *random.pick(&atoms));
+    }
+    if !entries.is_empty() && random.one_in(5) {
+        let place = random.below(entries.len());
+        entries[place] = *random.pick(&[atoms.len() as u8, 255]);
+    }
+    entries
 }
 
 /// A sequence of any sort, as bytes.

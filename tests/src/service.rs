@@ -1,6 +1,42 @@
-//! A service's operations, the calls to them and their answers.
+//! The operations of both services, the calls to them and their answers.
 
+use crate::limits::{Limits, HUB, OFFICE};
 use std::fmt;
+
+/// Where a service runs.
+#[derive(Clone, Copy, Debug, PartialEq, Eq, PartialOrd, Ord)]
+pub enum Host {
+    Office,
+    Hub,
+}
+
+impl Host {
+    pub const ALL: [Host; 2] = [Host::Office, Host::Hub];
+
+    pub fn limits(self) -> Limits {
+        match self {
+            Host::Office => OFFICE,
+            Host::Hub => HUB,
+        }
+    }
+
+    /// The programs call the office.
+    pub fn offers(self, operation: Operation) -> bool {
+        self == Host::Office || !operation.is_program()
+    }
+
+    /// The name of its operation in vector files.
+    pub fn name_of(self, operation: Operation) -> String {
+        format!("{}{}", self.prefix(), operation.name())
+    }
+
+    fn prefix(self) -> &'static str {
+        match self {
+            Host::Office => "",
+            Host::Hub => "hub.",
+        }
+    }
+}
 
 #[derive(Clone, Copy, Debug, PartialEq, Eq, PartialOrd, Ord)]
 pub enum Operation {
@@ -64,6 +100,11 @@ impl Operation {
         Operation::ALL.into_iter().find(|operation| operation.name() == name)
     }
 
+    /// Whether it is a run of a program.
+    pub fn is_program(self) -> bool {
+        matches!(self, Operation::Program | Operation::LparseProgram)
+    }
+
     pub fn arguments(self) -> &'static [Argument] {
         use Argument::*;
         match self {
@@ -83,6 +124,7 @@ impl Operation {
 /// One call; arguments that the operation does not take are empty.
 #[derive(Clone, Debug, PartialEq, Eq)]
 pub struct Call {
+    pub host: Host,
     pub operation: Operation,
     /// For a program: its whole input.
     pub sheet: Vec<u8>,
@@ -93,8 +135,21 @@ pub struct Call {
 }
 
 impl Call {
+    /// A call to the office.
     pub fn new(operation: Operation, sheet: &[u8]) -> Call {
-        Call { operation, sheet: sheet.to_vec(), number: 0, sequence: Vec::new(), room: None }
+        Call { host: Host::Office, operation, sheet: sheet.to_vec(), number: 0, sequence: Vec::new(), room: None }
+    }
+
+    /// A call of the operation that has this name in vector files, with no arguments yet.
+    pub fn named(name: &str) -> Option<Call> {
+        let host = if name.starts_with(Host::Hub.prefix()) { Host::Hub } else { Host::Office };
+        let operation = Operation::named(name.strip_prefix(host.prefix())?)?;
+        host.offers(operation).then(|| Call::new(operation, &[]).at(host))
+    }
+
+    pub fn at(mut self, host: Host) -> Call {
+        self.host = host;
+        self
     }
 
     pub fn number(mut self, number: u64) -> Call {
@@ -219,7 +274,7 @@ fn hashed(length: usize, bytes: impl Iterator<Item = u8>) -> String {
     format!("#{length}:{hash:016x}")
 }
 
-/// Something that answers calls: the library or the reference.
+/// Something that answers calls: the libraries or the reference.
 pub trait Service {
     fn offers(&self, operation: Operation) -> bool;
 

@@ -26,11 +26,10 @@ pub fn parse(line: &str) -> Option<Line> {
     let mut fields = question.split(' ');
     let (from, until) = fields.next()?.split_once('-')?;
     let (from, until) = (from.parse().ok()?, until.parse().ok()?);
-    let Some(operation) = Operation::named(fields.next()?) else {
+    let Some(mut call) = Call::named(fields.next()?) else {
         return Some(Line::Unknown);
     };
-    let mut call = Call::new(operation, &[]);
-    for argument in operation.arguments() {
+    for argument in call.operation.arguments() {
         let field = fields.next()?;
         match argument {
             Argument::Sheet => call.sheet = unhex(field)?,
@@ -56,7 +55,7 @@ fn unhex(field: &str) -> Option<Vec<u8>> {
 
 /// A case that stands from one level to another, as a line.
 pub fn format(from: u32, until: u32, call: &Call, answer: &Answer) -> String {
-    let mut line = format!("{from}-{until} {}", call.operation.name());
+    let mut line = format!("{from}-{until} {}", call.host.name_of(call.operation));
     for argument in call.operation.arguments() {
         line.push(' ');
         line += &match argument {

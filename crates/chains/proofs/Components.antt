@@ -23,7 +23,7 @@ use Rattle.bits.specs.inner.Listed.{Listing}
 use Rattle.bits.specs.inner.Visited.{listed}
 use Rattle.bits.specs.declared.Atoms.{Atoms}
 use Rattle.bits.proofs.Listing.{listed-has, listed-place, listed-apart}
-use Rattle.chains.specs.inner.Subsets.{Setting, Tested, Edged, Members, ComponentTested, SetTested, Graph, Small, PassesBy}
+use Rattle.chains.specs.inner.Subsets.{Roomy, Setting, Tested, Edged, Members, ComponentTested, SetTested, Graph, Small, PassesBy}
 
 -- A component's atoms, listed.
 module _ (x : ℕ) (L : Atoms) (S : Listing x L) (P : Program) (c : ℕ) (rows : List ℕ) (G : Edged P rows) (M : Members P c x) where
@@ -65,8 +65,8 @@ module _ (x : ℕ) (L : Atoms) (S : Listing x L) (P : Program) (c : ℕ) (rows :
       back h = T .is P setting .1 (λ p l w C. h (atom p) w C (atom-named p l))
 
 module _ (x : ℕ) (L : Atoms) (S : Listing x L) where
-  pub places-few : length (listed x) ≤ 10 → L .t ≤ 10
-  places-few l = let e = S .size in omega arith
+  pub places-roomy : (rows : ℕ) → Roomy (length (listed x)) rows → Roomy (L .t) rows
+  places-roomy rows R = subst (λ k. Roomy k rows) (sym (S .size)) R
 
   pub set-tested : (rows s : List ℕ) (r : Bool) → Tested rows (L .atoms) (L .t) s r → SetTested rows x s r
   set-tested rows s r T = record { is = λ P c G M. component-tested x L S P c rows G M s r T }
@@ -160,8 +160,8 @@ module _ (n : ℕ) (rows sets s : List ℕ) where
   pub asking-end : (c : ℕ) → Asking n rows sets s c → n ≤ c → PassesBy n rows sets s true
   asking-end c A l = record { is = λ P G. sofar-end P (G .edged .formed) s c (A .sofar P G) (let e = G .size in omega arith) }
 
-pub few-atoms : (n : ℕ) (sets : List ℕ) (c : ℕ) → Small n sets → c < n → length (listed (getD sets c 0)) ≤ 10
-few-atoms n sets c S l = S .few c l
+pub component-roomy : (n : ℕ) (sets : List ℕ) (rows c r : ℕ) → Small n sets rows → c < n → r ≡ rows → Roomy (length (listed (getD sets c 0))) r
+component-roomy n sets rows c r S l e = subst (Roomy (length (listed (getD sets c 0)))) (sym e) (S .few c l)
 
 -- The entries behind the header, as the code has them.
 module _ (q : List ℕ) where

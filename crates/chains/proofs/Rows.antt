@@ -14,7 +14,7 @@ use lib.Seq.{getD-set-same, getD-set-other}
 use Rattle.lists.proofs.Bools.{by-bool, true-false, and-intro, and-left, and-right, or-right}
 use Rattle.bits.specs.inner.Sets.{has, With, Without, Subset, Both}
 use Rattle.bits.proofs.Digits.{or-has, or-grows, and-has, digits-same, power-has}
-use Rattle.chains.specs.inner.Subsets.{RowAfter, NextWith, TableAfter, Power}
+use Rattle.chains.specs.inner.Subsets.{RowAfter, NextWith, TableAfter, Power, Cleared}
 
 stays : (x e h : Bool) → x ≡ (x || e && (h && false))
 stays true e h = refl
@@ -117,6 +117,21 @@ module _ (S i : ℕ) (t : has S i ≡ true) where
         between = λ T l m. by-bool (has (S + 1) i) (λ h. let e = near h in absurd (omega arith)) (λ f. far f T l (let sum = or-add-and (S + 1) (2 ^ i) in omega arith));
       })
 
+-- A row more is empty.
+module _ (S : ℕ) (cur : List ℕ) (K : Cleared S cur) where
+  pub cleared-turn : S < length cur → Cleared (S + 1) (set cur S 0)
+  cleared-turn l =
+      record {
+        empty = λ T m. by-bool (eqb T S) (λ q. rw (eqb-true T S q, getD-set-same cur S 0 0 l) refl)
+            (λ q. let ne = eqb-false T S q in getD-set-other cur S T 0 0 (λ e. absurd (omega arith)) ∙ K .empty T (omega arith));
+      }
+
+  pub cleared-end : (size : ℕ) → size ≤ S → Cleared size cur
+  cleared-end size l = record { empty = λ T m. K .empty T (omega arith) }
+
+pub cleared-start : (cur : List ℕ) → Cleared 0 cur
+cleared-start cur = record { empty = λ T l. absurd (omega arith) }
+
 -- The rows below S, a set with i, are done.
 pub record Stepping (old : List ℕ) (i after S : ℕ) (cur : List ℕ) : Type 0 where
   pub long : length cur ≡ length old
@@ -184,4 +199,4 @@ module _ (old : List ℕ) (i after : ℕ) where
       here T e = rw (e, getD-set-same cur S r 0 (let e = K .long in omega arith)) moved
 
   pub stepping-end : (S size : ℕ) (cur : List ℕ) → Stepping old i after S cur → size ≤ S → TableAfter old size i after cur
-  stepping-end S size cur K l = record { long = K .long; rows = λ T m. K .done T (omega arith) }
+  stepping-end S size cur K l = record { rows = λ T m. K .done T (omega arith) }

@@ -7,8 +7,7 @@ use Prim.Native.Nat.{ℕ, zero, suc, _+_, _-_, _^_, _≤_, _<_}
 use native.Mathlib.Omega.{arith}
 use borrow.Author.Tests.{eqb-true, eqb-false, eq-eqb, ne-eqb, lt-ltb, ltb-true}
 use lib.Dec.{eqb, ltb}
-use lib.ListN.{length, getD, drop, replicate, length-replicate, getD-replicate}
-use lib.Pow.{pow-mono}
+use lib.ListN.{length, getD, drop}
 use lib.Seq.{drop-cons, drop-drop, drop-length}
 use Rattle.lists.specs.Lists.{below}
 use Rattle.lists.proofs.Bools.{by-bool, true-false, and-intro, and-left, and-right, or-cases, or-right, not-intro, not-elim}
@@ -23,7 +22,7 @@ use Rattle.unfolding.proofs.Starting.{started-none, started-more, started-other
 use Rattle.bits.specs.inner.Sets.{has, ByteAt, Subset}
 use Rattle.bits.proofs.Digits.{zero-has}
 use Rattle.chains.proofs.Places.{full-places, full-small}
-use Rattle.chains.specs.inner.Subsets.{Setting, AtPlaces, SubsetTable, RowAfter, TableAfter, Followers, PlaceOf, Power, Entered, Filled, Tested}
+use Rattle.chains.specs.inner.Subsets.{Setting, AtPlaces, SubsetTable, RowAfter, TableAfter, Followers, PlaceOf, Power, Entered, Cleared, Filled, Tested}
 
 module _ (P : Program) (rows atoms : List ℕ) (k : ℕ) (K : Setting P rows atoms k) where
   abbrev atom : ℕ → ℕ
@@ -143,35 +142,30 @@ module _ (P : Program) (rows atoms : List ℕ) (k : ℕ) (K : Setting P rows ato
 module _ (rows atoms : List ℕ) (k x p : ℕ) (N : PlaceOf atoms k x p) where
   pub entered-own : (old new : List ℕ) (after size : ℕ) → p < k → Followers rows atoms k x after → Power k size → TableAfter old size p after new → Entered rows atoms k x old new
   entered-own old new after size l F E A =
-      record { long = A .long; turns = λ P s K T. table-own P rows atoms k K old new s x p after size l (N .found l) F E A T }
+      record { turns = λ P s K T. table-own P rows atoms k K old new s x p after size l (N .found l) F E A T }
 
   pub entered-other : (old : List ℕ) → k ≤ p → Entered rows atoms k x old old
-  entered-other old l = record { long = refl; turns = λ P s K T. table-other P rows atoms k K old s x (N .absent l) T }
+  entered-other old l = record { turns = λ P s K T. table-other P rows atoms k K old s x (N .absent l) T }
 
 -- The entries from i on are read, of those from a place on.
 pub record Reading (rows atoms : List ℕ) (k : ℕ) (q : List ℕ) (from i : ℕ) (sets : List ℕ) : Type 0 where
-  pub long : length sets ≡ 1024
   pub start : from ≤ i
   pub inside : i ≤ length q
   pub table : (P : Program) → Setting P rows atoms k → SubsetTable P atoms k sets (drop i q)
 
-module _ (rows atoms : List ℕ) (k : ℕ) (few : k ≤ 10) (q : List ℕ) where
-  pub reading-start : (from : ℕ) (sets : List ℕ) → sets ≡ replicate 1024 0 → from ≤ length q → Reading rows atoms k q from (length q) sets
-  reading-start from sets blank l =
-      rw blank
-      (record {
-        long = length-replicate {A = ℕ} 1024 0;
+module _ (rows atoms : List ℕ) (k : ℕ) (q : List ℕ) where
+  pub reading-start : (from size : ℕ) (sets : List ℕ) → Power k size → Cleared size sets → from ≤ length q → Reading rows atoms k q from (length q) sets
+  reading-start from size sets N Z l =
+      record {
         start = l;
         inside = omega arith;
-        table = λ P K. subst (SubsetTable P atoms k (replicate 1024 0)) (sym (drop-length q)) (table-start P rows atoms k K (replicate 1024 0)
-            (λ S m. getD-replicate {A = ℕ} 1024 S 0 0 (let e = pow-mono {i = k} {j = 10} few in omega arith)));
-      })
+        table = λ P K. subst (SubsetTable P atoms k sets) (sym (drop-length q)) (table-start P rows atoms k K sets (λ S m. Z .empty S (let e = N .is in omega arith)));
+      }
 
   pub reading-turn : (from i x : ℕ) (old new : List ℕ) → Reading rows atoms k q from i old → from < i → ByteAt q (i - 1) x → Entered rows atoms k x old new → Reading rows atoms k q from (i - 1) new
   reading-turn from i x old new R l B E =
       let h = R .inside in
       record {
-        long = E .long ∙ R .long;
         start = omega arith;
         inside = omega arith;
         table = λ P K. subst (SubsetTable P atoms k new) (ap (λ y. y ∷ drop i q) (B .is) ∙ (ap (λ j. getD q (i - 1) 0 ∷ drop j q) (let e : i ≡ suc (i - 1) = omega arith in e) ∙ sym (drop-cons q (i - 1) 0 (omega arith))))
@@ -181,7 +175,7 @@ module _ (rows atoms : List ℕ) (k : ℕ) (few : k ≤ 10) (q : List ℕ) where
   pub reading-end : (from i : ℕ) (sets : List ℕ) → Reading rows atoms k q from i sets → i ≤ from → Filled rows atoms k (drop from q) sets
   reading-end from i sets R l =
       let h = R .start in
-      record { long = R .long; table = λ P K. subst (λ j. SubsetTable P atoms k sets (drop j q)) (let e : i ≡ from = omega arith in e) (R .table P K) }
+      record { table = λ P K. subst (λ j. SubsetTable P atoms k sets (drop j q)) (let e : i ≡ from = omega arith in e) (R .table P K) }
 
 -- The row of the whole component says whether all its chains are found.
 module _ (rows atoms : List ℕ) (k : ℕ) (s : List ℕ) where

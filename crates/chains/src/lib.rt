@@ -13,16 +13,16 @@ use bits::without;
 ghost use mathlib.Core.Path.{_≡_};
 ghost use mathlib.Core.Bool.{true};
 ghost use Prim.Native.Nat.{_≤_, _<_};
-ghost use lib.ListN.{length, getD, drop, replicate};
+ghost use lib.ListN.{length, getD, drop};
 ghost use Rattle.lists.specs.Lists.{below};
 ghost use Rattle.bits.specs.inner.Sets.{has, Gathered};
 ghost use Rattle.bits.specs.inner.Listed.{Low};
 ghost use Rattle.bits.specs.inner.Visited.{listed};
-ghost use Rattle.chains.specs.inner.Subsets.{RowAfter, NextWith, TableAfter, Followers, PlaceOf, Power, Entered, Filled, Tested, SetTested, Small, PassesBy};
+ghost use Rattle.chains.specs.inner.Subsets.{Roomy, RowAfter, NextWith, TableAfter, Followers, PlaceOf, Power, Entered, Cleared, Filled, Tested, SetTested, Small, PassesBy};
 
 // The row of a set with i after an entry at place i, which has edges to the places `after`.
-fn row_after(sets: &[u64; 1024], set: usize, i: usize, after: u64) -> u64
-    requires { ⌜ (set < 1024) × (i < 64) × (has set i ≡ true) ⌝ }
+fn row_after(sets: &[u64], set: usize, i: usize, after: u64) -> u64
+    requires { ⌜ (set < length (now sets)) × (i < 64) × (has set i ≡ true) ⌝ }
     ensures { λ r. ⌜ RowAfter (now (sets .entry)) set i after r ⌝ }
 {
     let row = sets[set];
@@ -50,8 +50,8 @@ fn next_with(set: usize, i: usize) -> usize
 }
 
 // All rows below a size after such an entry: in place, since rows of sets with i are written and others are read.
-fn step(sets: &mut [u64; 1024], size: usize, i: usize, after: u64)
-    requires { ⌜ (length (now sets) ≡ 1024) × (size ≤ 1024) × (i ≤ 10) ⌝ }
+fn step(sets: &mut [u64], size: usize, i: usize, after: u64)
+    requires { ⌜ (size ≤ length (now sets)) × (size ≤ 1024) × (i ≤ 10) ⌝ }
     ensures { λ r. ⌜ TableAfter (now (sets .entry)) size i after (now (sets .exit)) ⌝ }
 {
     let mut set = power(i);
@@ -100,8 +100,8 @@ pub fn place_of(atoms: &[u8; 16], k: usize, x: usize) -> usize
 }
 
 // One entry more.
-fn enter(sets: &mut [u64; 1024], rows: &[u64; 64], atoms: &[u8; 16], k: usize, x: usize)
-    requires { ⌜ (length (now sets) ≡ 1024) × (k ≤ 10) × Low (now atoms) k × (x < 64) ⌝ }
+fn enter(sets: &mut [u64], rows: &[u64; 64], atoms: &[u8; 16], k: usize, x: usize)
+    requires { ⌜ Roomy k (length (now sets)) × Low (now atoms) k × (x < 64) ⌝ }
     ensures { λ r. ⌜ Entered (now (rows .entry)) (now (atoms .entry)) k x (now (sets .entry)) (now (sets .exit)) ⌝ }
 {
     let p = place_of(atoms, k, x);
@@ -111,18 +111,24 @@ fn enter(sets: &mut [u64; 1024], rows: &[u64; 64], atoms: &[u8; 16], k: usize, x
     }
 }
 
-// Fills an empty table for a component, the first k atoms, by the entries from a position of the sequence on.
-pub fn fill(
-    sets: &mut [u64; 1024],
-    rows: &[u64; 64],
-    atoms: &[u8; 16],
-    k: usize,
-    q: &[u8],
-    from: usize,
-)
-    requires { ⌜ (now sets ≡ replicate 1024 0) × (k ≤ 10) × Low (now atoms) k × (3 ≤ from) × (from ≤ length (now q)) × (below 64 (drop 3 (now q)) ≡ true) ⌝ }
+// Empties all rows below a size.
+fn clear(sets: &mut [u64], size: usize)
+    requires { ⌜ size ≤ length (now sets) ⌝ }
+    ensures { λ r. ⌜ Cleared size (now (sets .exit)) ⌝ }
+{
+    let mut set = 0;
+    while set < size {
+        sets[set] = 0;
+        set += 1;
+    }
+}
+
+// Fills the table for a component, the first k atoms, by the entries from a position of the sequence on.
+pub fn fill(sets: &mut [u64], rows: &[u64; 64], atoms: &[u8; 16], k: usize, q: &[u8], from: usize)
+    requires { ⌜ Roomy k (length (now sets)) × Low (now atoms) k × (3 ≤ from) × (from ≤ length (now q)) × (below 64 (drop 3 (now q)) ≡ true) ⌝ }
     ensures { λ r. ⌜ Filled (now (rows .entry)) (now (atoms .entry)) k (drop from (now (q .entry))) (now (sets .exit)) ⌝ }
 {
+    clear(sets, power(k));
     let mut i = q.len();
     while from < i {
         i -= 1;
@@ -131,47 +137,46 @@ pub fn fill(
 }
 
 // Is every chain of a component, the first k atoms, found in the sequence?
-fn chains_found(rows: &[u64; 64], atoms: &[u8; 16], k: usize, q: &[u8]) -> bool
-    requires { ⌜ (k ≤ 10) × Low (now atoms) k × (3 ≤ length (now q)) × (below 64 (drop 3 (now q)) ≡ true) ⌝ }
+fn chains_found(table: &mut [u64], rows: &[u64; 64], atoms: &[u8; 16], k: usize, q: &[u8]) -> bool
+    requires { ⌜ Roomy k (length (now table)) × Low (now atoms) k × (3 ≤ length (now q)) × (below 64 (drop 3 (now q)) ≡ true) ⌝ }
     ensures { λ r. ⌜ Tested (now (rows .entry)) (now (atoms .entry)) k (drop 3 (now (q .entry))) r ⌝ }
 {
-    let mut sets = [0u64; 1024];
-    fill(&mut sets, rows, atoms, k, q, 3);
+    fill(table, rows, atoms, k, q, 3);
     let full = power(k) - 1;
-    subset(full as u64, sets[full])
+    subset(full as u64, table[full])
 }
 
 // Is every chain of the component with these atoms found in the sequence? By the table.
-fn table_found(rows: &[u64; 64], x: u64, q: &[u8]) -> bool
-    requires { ⌜ (length (listed x) ≤ 10) × (3 ≤ length (now q)) × (below 64 (drop 3 (now q)) ≡ true) ⌝ }
+fn table_found(table: &mut [u64], rows: &[u64; 64], x: u64, q: &[u8]) -> bool
+    requires { ⌜ Roomy (length (listed x)) (length (now table)) × (3 ≤ length (now q)) × (below 64 (drop 3 (now q)) ≡ true) ⌝ }
     ensures { λ r. ⌜ SetTested (now (rows .entry)) x (drop 3 (now (q .entry))) r ⌝ }
 {
     let list = list_set(x);
     let atoms = list.atoms;
     let k = list.t;
-    chains_found(rows, &atoms, k, q)
+    chains_found(table, rows, &atoms, k, q)
 }
 
 // The same, with the set of the sequence's atoms: an atom alone has one chain, itself.
-fn component_found(rows: &[u64; 64], x: u64, q: &[u8], entries: u64) -> bool
-    requires { ⌜ (length (listed x) ≤ 10) × (3 ≤ length (now q)) × (below 64 (drop 3 (now q)) ≡ true) × Gathered (drop 3 (now q)) entries ⌝ }
+fn component_found(table: &mut [u64], rows: &[u64; 64], x: u64, q: &[u8], entries: u64) -> bool
+    requires { ⌜ Roomy (length (listed x)) (length (now table)) × (3 ≤ length (now q)) × (below 64 (drop 3 (now q)) ≡ true) × Gathered (drop 3 (now q)) entries ⌝ }
     ensures { λ r. ⌜ SetTested (now (rows .entry)) x (drop 3 (now (q .entry))) r ⌝ }
 {
     if size(x) <= 1 {
         return subset(x, entries);
     }
-    table_found(rows, x, q)
+    table_found(table, rows, x, q)
 }
 
-// The chain question, of a program of n atoms with its edges and the sets of its components.
-pub fn passes(n: usize, rows: &[u64; 64], sets: &[u64; 64], q: &[u8]) -> bool
-    requires { ⌜ (n ≤ 64) × Small n (now sets) × (3 ≤ length (now q)) × (below n (drop 3 (now q)) ≡ true) ⌝ }
+// The chain question, of a program of n atoms with its edges and the sets of its components. The table is filled anew for each component.
+pub fn passes(table: &mut [u64], n: usize, rows: &[u64; 64], sets: &[u64; 64], q: &[u8]) -> bool
+    requires { ⌜ (n ≤ 64) × Small n (now sets) (length (now table)) × (3 ≤ length (now q)) × (below n (drop 3 (now q)) ≡ true) ⌝ }
     ensures { λ r. ⌜ PassesBy n (now (rows .entry)) (now (sets .entry)) (drop 3 (now (q .entry))) r ⌝ }
 {
     let entries = gather(&q[3..]);
     let mut c = 0;
     while c < n {
-        if !component_found(rows, sets[c], q, entries) {
+        if !component_found(table, rows, sets[c], q, entries) {
             return false;
         }
         c += 1;

@@ -1,6 +1,6 @@
 -- Laws of writing the clauses of the rules kept for a copy, and of constraints.
 use mathlib.Core.List.{List, [], _∷_, _++_, map, map-map, flatMap}
-use mathlib.Core.Path.{_≡_, refl, sym, _∙_, ap, subst}
+use mathlib.Core.Path.{_≡_, refl, sym, _∙_, ap, ap₂, subst}
 use Prim.Native.Nat.{ℕ, zero, suc, _+_, _-_, _≤_, _<_}
 use native.Mathlib.Omega.{arith}
 use lib.IntN.{ℤ, pos, negℤ}
@@ -52,22 +52,22 @@ module _ (pos-sets neg-sets added-atoms vars : List ℕ) (h d : ℕ) (entries : 
         pub rules-variable : d + k < 2147483648 → rule < 2147483648
         rules-variable l = let e = L .counted in omega arith
 
-        module _ (i : ℕ) (I : ListedAt entries j i) where
-          here : ruleWords vars h rule (getD pos-sets i 0) (getD neg-sets i 0) (getD added-atoms i 0) ≡ ruleOne j
+        module _ (i n : ℕ) (I : ListedAt entries j i) (e : n ≡ getD neg-sets i 0) where
+          here : ruleWords vars h rule (getD pos-sets i 0) n (getD added-atoms i 0) ≡ ruleOne j
           here =
-              ap (λ v. ruleWords vars h v (getD pos-sets i 0) (getD neg-sets i 0) (getD added-atoms i 0)) (L .counted)
+              ap₂ (λ v x. ruleWords vars h v (getD pos-sets i 0) x (getD added-atoms i 0)) (L .counted) e
               ∙ ap (λ x. ruleWords vars h (d + j) (getD pos-sets x 0) (getD neg-sets x 0) (getD added-atoms x 0)) (I .is)
 
           pub rules-room : at + length (rulesWords pos-sets neg-sets added-atoms vars h d entries k) ≤ length old
-              → next + length (ruleWords vars h rule (getD pos-sets i 0) (getD neg-sets i 0) (getD added-atoms i 0)) ≤ length cur
+              → next + length (ruleWords vars h rule (getD pos-sets i 0) n (getD added-atoms i 0)) ≤ length cur
           rules-room l =
               subst (λ ws. next + length ws ≤ length cur) (sym here)
               (range-room ruleOne old at 0 k cur next j (L .left) lt (subst (λ ws. at + length ws ≤ length old) (sym rules-are) l))
 
-          pub rules-turn : (new : List ℤ) (behind : ℕ) → Wrote cur next (ruleWords vars h rule (getD pos-sets i 0) (getD neg-sets i 0) (getD added-atoms i 0)) new behind → RulesLeft old at new behind (rule + 1) (j + 1)
+          pub rules-turn : (new : List ℤ) (behind : ℕ) → Wrote cur next (ruleWords vars h rule (getD pos-sets i 0) n (getD added-atoms i 0)) new behind → RulesLeft old at new behind (rule + 1) (j + 1)
           rules-turn new behind W =
               record {
-                counted = let e = L .counted in omega arith;
+                counted = let c = L .counted in omega arith;
                 left = range-turn ruleOne old at 0 k cur next j (L .left) lt new behind (subst (λ ws. Wrote cur next ws new behind) here W);
               }
 
@@ -98,12 +98,12 @@ module _ (pos-sets neg-sets added-atoms vars : List ℕ) (old : List ℤ) (at fr
   backs-start = range-start f old at from to
 
   module _ (cur : List ℤ) (next j : ℕ) (L : BacksLeft pos-sets neg-sets added-atoms vars old at from to cur next j) where
-    module _ (lt : j < to) where
-      pub backs-room : at + length (backsWords pos-sets neg-sets added-atoms vars from to) ≤ length old → next + length (backWords vars (getD pos-sets j 0) (getD neg-sets j 0) (getD added-atoms j 0)) ≤ length cur
-      backs-room h = range-room f old at from to cur next j L lt (subst (λ ws. at + length ws ≤ length old) (sym backs-are) h)
+    module _ (lt : j < to) (n : ℕ) (e : n ≡ getD neg-sets j 0) where
+      pub backs-room : at + length (backsWords pos-sets neg-sets added-atoms vars from to) ≤ length old → next + length (backWords vars (getD pos-sets j 0) n (getD added-atoms j 0)) ≤ length cur
+      backs-room h = rw e (range-room f old at from to cur next j L lt (subst (λ ws. at + length ws ≤ length old) (sym backs-are) h))
 
-      pub backs-turn : (new : List ℤ) (behind : ℕ) → Wrote cur next (backWords vars (getD pos-sets j 0) (getD neg-sets j 0) (getD added-atoms j 0)) new behind → BacksLeft pos-sets neg-sets added-atoms vars old at from to new behind (j + 1)
-      backs-turn new behind W = range-turn f old at from to cur next j L lt new behind W
+      pub backs-turn : (new : List ℤ) (behind : ℕ) → Wrote cur next (backWords vars (getD pos-sets j 0) n (getD added-atoms j 0)) new behind → BacksLeft pos-sets neg-sets added-atoms vars old at from to new behind (j + 1)
+      backs-turn new behind W = range-turn f old at from to cur next j L lt new behind (subst (λ x. Wrote cur next (backWords vars (getD pos-sets j 0) x (getD added-atoms j 0)) new behind) e W)
 
     pub backs-length : length cur ≡ length old
     backs-length = range-length f old at from to cur next j L

@@ -11,7 +11,7 @@ use Rattle.asp.specs.Program.{Body}
 use Rattle.unfolding.specs.Unfolded.{Copy, Unfolded}
 use Rattle.unfolding.specs.Clauses.{Literal, positive, negative, negated, Clause, literals, ruleClauses, rulesClauses, copyClauses, copiesClauses, constraintClause, clauses, variables, signed, clauseWords, signedWords}
 use Rattle.copies.specs.inner.Bodies.{atomCount}
-use Rattle.program.specs.declared.ProgramTable.{ProgramTable}
+use Rattle.program.specs.inner.Held.{ProgramTable}
 use Rattle.copies.specs.inner.Ready.{Ready, unfoldedIn}
 use Rattle.copies.specs.inner.Totals.{keptBodies, TotalsOf}
 use Rattle.copies.specs.declared.Totals.{Totals}

@@ -8,7 +8,7 @@ use lib.ListN.{length, length-append, set, replicate}
 use Rattle.asp.specs.Program.{Body}
 use Rattle.unfolding.specs.Unfolded.{Copy, last}
 use Rattle.unfolding.specs.Clauses.{copyClauses, copiesClauses, constraintClause, clauses, signedWords}
-use Rattle.program.specs.declared.ProgramTable.{ProgramTable}
+use Rattle.program.specs.inner.Held.{ProgramTable}
 use Rattle.writer.specs.inner.Wrote.{Wrote}
 use Rattle.writer.proofs.Writing.{Left, left-start, left-turn, left-end, left-length, left-room, wrote-append, wrote-length}
 use Rattle.copies.specs.inner.Tables.{Values, Overlaid}
@@ -18,7 +18,6 @@ use Rattle.copies.specs.inner.Kept.{Marked, Inside, Kept}
 use Rattle.copies.specs.inner.Ready.{Ready, unfoldedIn}
 use Rattle.copies.specs.inner.Totals.{keptBodies}
 use Rattle.copies.specs.declared.EntryCopy.{EntryCopy}
-use Rattle.copies.specs.declared.KeptRules.{KeptRules}
 use Rattle.copies.proofs.Keeping.{bodies-number}
 use Rattle.copies.proofs.Emitting.{Emitting, emitting-start, emitting-end, emitting-entry, emitting-fresh, emitting-var, emitting-vars, emitting-here, emitting-turn}
 use Rattle.copies.proofs.Sizes.{copies-number, rules-short, constraints-by-last}
@@ -29,37 +28,37 @@ use Rattle.clause_output.specs.declared.Ends.{Ends}
 use Rattle.clause_output.proofs.Sizes.{first-words}
 
 -- A copy.
-module _ (pos neg added vars : List ℕ) (var : ℕ) (kept : KeptRules) (E : Ends) where
+module _ (pos neg added vars : List ℕ) (var : ℕ) (entries : List ℕ) (k : ℕ) (E : Ends) where
   abbrev firsts : List ℤ
-  firsts = firstWords var (E .rule) (kept .rules)
+  firsts = firstWords var (E .rule) k
 
   abbrev seconds : List ℤ
-  seconds = rulesWords pos neg added vars var (E .rule) (kept .entries) (kept .rules)
+  seconds = rulesWords pos neg added vars var (E .rule) entries k
 
-  copy-is : copyClauseWords pos neg added vars (E .rule) var kept ≡ firsts ++ seconds
+  copy-is : copyClauseWords pos neg added vars (E .rule) var entries k ≡ firsts ++ seconds
   unfolding copyClauseWords copyClauses signedWords flatMap firstWords rulesWords
-  copy-is = ap (λ k. firstWords var (E .rule) k ++ seconds) (bodies-number pos neg added vars (kept .entries) (kept .rules))
+  copy-is = ap (λ n. firstWords var (E .rule) n ++ seconds) (bodies-number pos neg added vars entries k)
 
-  first-size : length firsts ≡ kept .rules + 2
+  first-size : length firsts ≡ k + 2
   unfolding firstWords
-  first-size = first-words var (E .rule) (kept .rules)
+  first-size = first-words var (E .rule) k
 
-  copy-size : length (copyClauseWords pos neg added vars (E .rule) var kept) ≡ kept .rules + 2 + length seconds
+  copy-size : length (copyClauseWords pos neg added vars (E .rule) var entries k) ≡ k + 2 + length seconds
   copy-size = let e = ap length copy-is ∙ length-append firsts seconds in let f = first-size in omega arith
 
-  pub copy-numbers : E .rule < 1000000 → Inside (kept .entries) (kept .rules) → E .rule + kept .rules < 2147483648
+  pub copy-numbers : E .rule < 1000000 → Inside entries k → E .rule + k < 2147483648
   copy-numbers l I = let f = I .few in omega arith
 
-  module _ (old : List ℤ) (room : E .at + length (copyClauseWords pos neg added vars (E .rule) var kept) ≤ length old) where
-    pub copy-first : E .at + kept .rules + 2 ≤ length old
+  module _ (old : List ℤ) (room : E .at + length (copyClauseWords pos neg added vars (E .rule) var entries k) ≤ length old) where
+    pub copy-first : E .at + k + 2 ≤ length old
     copy-first = let e = copy-size in omega arith
 
-    pub copy-second : (mid : List ℤ) (next : ℕ) → Wrote old (E .at) (firstWords var (E .rule) (kept .rules)) mid next
-        → next + length (rulesWords pos neg added vars var (E .rule) (kept .entries) (kept .rules)) ≤ length mid
+    pub copy-second : (mid : List ℤ) (next : ℕ) → Wrote old (E .at) (firstWords var (E .rule) k) mid next
+        → next + length (rulesWords pos neg added vars var (E .rule) entries k) ≤ length mid
     copy-second mid next W = let n = wrote-length _ _ _ _ _ W in let e = copy-size in let f = first-size in let m = W .moved in omega arith
 
-  pub copy-put : (old mid new : List ℤ) (next r : ℕ) → Wrote old (E .at) (firstWords var (E .rule) (kept .rules)) mid next
-      → Wrote mid next (rulesWords pos neg added vars var (E .rule) (kept .entries) (kept .rules)) new r → CopyPut pos neg added vars var kept old new E (record { at = r; rule = E .rule + kept .rules })
+  pub copy-put : (old mid new : List ℤ) (next r : ℕ) → Wrote old (E .at) (firstWords var (E .rule) k) mid next
+      → Wrote mid next (rulesWords pos neg added vars var (E .rule) entries k) new r → CopyPut pos neg added vars var entries k old new E (record { at = r; rule = E .rule + k })
   copy-put old mid new next r W K = record { wrote = subst (λ ws. Wrote old (E .at) ws new r) (sym copy-is) (wrote-append _ _ _ _ _ _ _ _ W K); rule = refl }
 
 -- The clauses of the copies that are left, and how many rules have a variable.
@@ -111,39 +110,39 @@ module _ (t : ProgramTable) (names sets q : List ℕ) (R : Ready t names sets q)
         pub copies-var : c .var < 2147483648
         copies-var = let l = emitting-var t names sets q R i keeping latest fresh Rest W within c M in omega arith
 
-        module _ (k : KeptRules) (K : Kept (t .heads) (t .pos) (t .rules) (c .atom) (c .component) keeping k)
+        module _ (list : List ℕ) (k : ℕ) (K : Kept (t .heads) (t .pos) (t .rules) (c .atom) (c .component) keeping list k)
             (lasts vars : List ℕ) (F : Values last lasts) (O : Overlaid (c .component) latest lasts vars) where
           abbrev bodies : List Body
-          bodies = bodiesBy (t .pos) (t .neg) (t .added) vars (k .entries) (k .rules)
+          bodies = bodiesBy (t .pos) (t .neg) (t .added) vars list k
 
           abbrev copy : Copy
           copy = record { atom = c .atom; var = c .var; kept = bodies }
 
           abbrev here : List ℤ
-          here = copyClauseWords (t .pos) (t .neg) (t .added) vars (E .rule) (c .var) k
+          here = copyClauseWords (t .pos) (t .neg) (t .added) vars (E .rule) (c .var) list k
 
           pub copies-small : SmallVariables vars
-          copies-small = record { low = λ b l. let h = emitting-vars t names sets q R i keeping latest fresh Rest W within c M k K lasts vars F O b l in omega arith }
+          copies-small = record { low = λ b l. let h = emitting-vars t names sets q R i keeping latest fresh Rest W within c M list k K lasts vars F O b l in omega arith }
 
-          step : (cs : List Copy) → signedWords (copiesClauses (E .rule) (copy ∷ cs)) ≡ here ++ signedWords (copiesClauses (E .rule + k .rules) cs)
+          step : (cs : List Copy) → signedWords (copiesClauses (E .rule) (copy ∷ cs)) ≡ here ++ signedWords (copiesClauses (E .rule + k) cs)
           unfolding copiesClauses copyClauses copyClauseWords
           step cs =
               signed-append (copyClauses (E .rule) copy) (copiesClauses (E .rule + length bodies) cs)
-              ∙ ap (λ n. here ++ signedWords (copiesClauses (E .rule + n) cs)) (bodies-number (t .pos) (t .neg) (t .added) vars (k .entries) (k .rules))
+              ∙ ap (λ n. here ++ signedWords (copiesClauses (E .rule + n) cs)) (bodies-number (t .pos) (t .neg) (t .added) vars list k)
 
-          pub copies-room : length (copiesClauseWords (unfoldedIn t q)) ≤ length old → E .at + length (copyClauseWords (t .pos) (t .neg) (t .added) vars (E .rule) (c .var) k) ≤ length cur
+          pub copies-room : length (copiesClauseWords (unfoldedIn t q)) ≤ length old → E .at + length (copyClauseWords (t .pos) (t .neg) (t .added) vars (E .rule) (c .var) list k) ≤ length cur
           copies-room h =
-              let S = emitting-here t names sets q R i keeping latest fresh Rest W within c M k K lasts vars F O in
+              let S = emitting-here t names sets q R i keeping latest fresh Rest W within c M list k K lasts vars F O in
               left-room old 0 (total t q old) cur here _ _ (E .at) (S .holds .rest) (step (S .copies)) (let l : 0 + length (copiesClauseWords (unfoldedIn t q)) ≤ length old = omega arith in l)
 
-          pub copies-turn : (marked : ℕ) → Marked keeping (c .atom) (k .rules) marked → (new : List ℤ) (E′ : Ends) → CopyPut (t .pos) (t .neg) (t .added) vars (c .var) k cur new E E′
+          pub copies-turn : (marked : ℕ) → Marked keeping (c .atom) k marked → (new : List ℤ) (E′ : Ends) → CopyPut (t .pos) (t .neg) (t .added) vars (c .var) list k cur new E E′
               → ClausesWritten t q old (i + 1) marked (set latest (c .atom) (c .var)) (c .fresh) new E′
           unfolding flatMap
           copies-turn marked X new E′ P =
-              emitting-turn t names sets q R i keeping latest fresh Rest W within c M k K lasts vars F O marked (ClausesLeft old (total t q old) new E′) X one
+              emitting-turn t names sets q R i keeping latest fresh Rest W within c M list k K lasts vars F O marked (ClausesLeft old (total t q old) new E′) X one
             where
-              counted : (cs : List Copy) → length (keptBodies (copy ∷ cs)) ≡ k .rules + length (keptBodies cs)
-              counted cs = let e = length-append bodies (keptBodies cs) in let f = bodies-number (t .pos) (t .neg) (t .added) vars (k .entries) (k .rules) in omega arith
+              counted : (cs : List Copy) → length (keptBodies (copy ∷ cs)) ≡ k + length (keptBodies cs)
+              counted cs = let e = length-append bodies (keptBodies cs) in let f = bodies-number (t .pos) (t .neg) (t .added) vars list k in omega arith
 
               one : (cs : List Copy) → ClausesLeft old (total t q old) cur E (copy ∷ cs) → ClausesLeft old (total t q old) new E′ cs
               one cs L =

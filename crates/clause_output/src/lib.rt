@@ -1,5 +1,4 @@
 // Writing the completion clauses of the unfolded program.
-use copies::KeptRules;
 use copies::copy_at;
 use copies::entry_at;
 use copies::kept_rules;
@@ -8,7 +7,8 @@ use copies::last_places;
 use copies::mark;
 use copies::overlay;
 use copies::totals_of;
-use program::ProgramTable;
+use program::ProgramSize;
+use program::negative_at;
 use rule_clauses::put_back;
 use rule_clauses::put_rule;
 use writer::put_negated;
@@ -17,6 +17,7 @@ ghost use Prim.Native.Nat.{_+_, _≤_, _<_};
 ghost use lib.ListN.{length};
 ghost use Rattle.unfolding.specs.Unfolded.{last};
 ghost use Rattle.unfolding.specs.Clauses.{clauses, signedWords};
+ghost use Rattle.program.specs.inner.Held.{Sources, gathered, tableOf};
 ghost use Rattle.writer.specs.inner.Wrote.{Wrote};
 ghost use Rattle.copies.specs.inner.Tables.{Values};
 ghost use Rattle.copies.specs.inner.Kept.{Inside};
@@ -31,35 +32,37 @@ pub struct CopyVariables {
     pub rule: u32,
 }
 
-// The clauses of a copy's rules; their variables are counted on.
+// The clauses of a copy's k rules; their variables are counted on.
 fn put_rules<'a>(
     out: &mut [i32],
     at: usize,
     copy: CopyVariables,
-    kept: KeptRules,
+    entries: &[u8; 192],
+    k: usize,
     pos: &'a [u64; 192],
-    neg: &'a [u64; 192],
+    sources: &'a [u8; 192],
+    neg: &'a [u64; 128],
     added: &'a [u8; 192],
     vars: &[u32; 64],
     lasts: &[u32; 64],
 ) -> usize
-    requires { ⌜ SmallVariables (now vars) × Values last (now lasts) × Inside (kept .entries) (kept .rules)
-        × (copy .var < 2147483648) × (copy .rule + kept .rules < 2147483648)
-        × (at + length (rulesWords (now pos) (now neg) (now added) (now vars) (copy .var) (copy .rule) (kept .entries) (kept .rules))
+    requires { ⌜ Sources (now sources) × SmallVariables (now vars) × Values last (now lasts) × Inside (now entries) k
+        × (copy .var < 2147483648) × (copy .rule + k < 2147483648)
+        × (at + length (rulesWords (now pos) (gathered (now sources) (now neg)) (now added) (now vars) (copy .var) (copy .rule) (now entries) k)
         ≤ length (now out)) ⌝ }
     ensures { λ r. ⌜ Wrote (now (out .entry)) at
-        (rulesWords (now (pos .entry)) (now (neg .entry)) (now (added .entry)) (now (vars .entry)) (copy .var) (copy .rule) (kept .entries) (kept .rules))
+        (rulesWords (now (pos .entry)) (gathered (now (sources .entry)) (now (neg .entry))) (now (added .entry)) (now (vars .entry)) (copy .var) (copy .rule)
+        (now (entries .entry)) k)
         (now (out .exit)) r ⌝ }
 {
-    let k = kept.rules;
-    let entries = kept.entries;
     let var = copy.var;
     let mut rule = copy.rule;
     let mut next = at;
     let mut j = 0;
     while j < k {
-        let i = entry_at(&entries, k, j);
-        next = put_rule(out, next, var, rule, pos[i], neg[i], added[i], vars, lasts);
+        let i = entry_at(entries, k, j);
+        let set = negative_at(sources, neg, i);
+        next = put_rule(out, next, var, rule, pos[i], set, added[i], vars, lasts);
         rule += 1;
         j += 1;
     }
@@ -96,75 +99,110 @@ pub struct Ends {
     pub rule: u32,
 }
 
-// The clauses of a copy.
+// The clauses of a copy with k rules.
 fn put_copy<'a>(
     out: &mut [i32],
     ends: Ends,
     var: u32,
-    kept: KeptRules,
+    entries: &[u8; 192],
+    k: usize,
     pos: &'a [u64; 192],
-    neg: &'a [u64; 192],
+    sources: &'a [u8; 192],
+    neg: &'a [u64; 128],
     added: &'a [u8; 192],
     vars: &[u32; 64],
     lasts: &[u32; 64],
 ) -> Ends
-    requires { ⌜ SmallVariables (now vars) × Values last (now lasts) × Inside (kept .entries) (kept .rules)
+    requires { ⌜ Sources (now sources) × SmallVariables (now vars) × Values last (now lasts) × Inside (now entries) k
         × (var < 2147483648) × (ends .rule < 1000000)
-        × (ends .at + length (copyClauseWords (now pos) (now neg) (now added) (now vars) (ends .rule) var kept) ≤ length (now out)) ⌝ }
-    ensures { λ r. ⌜ CopyPut (now (pos .entry)) (now (neg .entry)) (now (added .entry)) (now (vars .entry)) var kept
-        (now (out .entry)) (now (out .exit)) ends r ⌝ }
+        × (ends .at + length (copyClauseWords (now pos) (gathered (now sources) (now neg)) (now added) (now vars) (ends .rule) var (now entries) k)
+        ≤ length (now out)) ⌝ }
+    ensures { λ r. ⌜ CopyPut (now (pos .entry)) (gathered (now (sources .entry)) (now (neg .entry))) (now (added .entry)) (now (vars .entry)) var
+        (now (entries .entry)) k (now (out .entry)) (now (out .exit)) ends r ⌝ }
 {
-    let k = kept.rules as u32;
+    let rules = k as u32;
     let rule = ends.rule;
-    let next = put_first(out, ends.at, var, rule, k);
+    let next = put_first(out, ends.at, var, rule, rules);
     let at = put_rules(
         out,
         next,
         CopyVariables { var, rule },
-        kept,
+        entries,
+        k,
         pos,
+        sources,
         neg,
         added,
         vars,
         lasts,
     );
-    Ends { at, rule: rule + k }
+    Ends {
+        at,
+        rule: rule + rules,
+    }
 }
 
 // The clauses of all copies, in sequence order.
-fn put_copies(
+fn put_copies<'a>(
     out: &mut [i32],
-    t: ProgramTable,
+    size: ProgramSize,
+    heads: &'a [u8; 192],
+    pos: &'a [u64; 192],
+    sources: &'a [u8; 192],
+    neg: &'a [u64; 128],
+    added: &'a [u8; 192],
     q: &[u8],
     names: &[u8; 64],
     sets: &[u64; 64],
     lasts: &[u32; 64],
 ) -> usize
-    requires { ⌜ Ready t (now names) (now sets) (now q) × Values last (now lasts)
-        × (length (copiesClauseWords (unfoldedIn t (now q))) ≤ length (now out)) ⌝ }
-    ensures { λ r. ⌜ Wrote (now (out .entry)) 0 (copiesClauseWords (unfoldedIn t (now (q .entry)))) (now (out .exit)) r ⌝ }
+    requires { ⌜ Sources (now sources) × Ready (tableOf size (now heads) (now pos) (now sources) (now neg) (now added)) (now names) (now sets) (now q)
+        × Values last (now lasts)
+        × (length (copiesClauseWords (unfoldedIn (tableOf size (now heads) (now pos) (now sources) (now neg) (now added)) (now q))) ≤ length (now out)) ⌝ }
+    ensures { λ r. ⌜ Wrote (now (out .entry)) 0
+        (copiesClauseWords (unfoldedIn (tableOf size (now (heads .entry)) (now (pos .entry)) (now (sources .entry)) (now (neg .entry)) (now (added .entry))) (now (q .entry))))
+        (now (out .exit)) r ⌝ }
 {
-    let rules = t.rules;
     let table = last_places(q);
-    let places = table.places;
     let mut latest = [0u32; 64];
+    let mut entries = [0u8; 192];
     let mut keeping: u64 = 0;
-    let mut fresh = t.atoms as u32;
+    let mut fresh = size.atoms as u32;
     let mut ends = Ends {
         at: 0,
         rule: (q.len() - 2) as u32,
     };
     let mut i = 3;
     while i < q.len() {
-        let copy = copy_at(q, i, names, sets, &places, fresh);
+        let copy = copy_at(q, i, names, sets, &table.places, fresh);
         let a = copy.atom;
         let var = copy.var;
-        let kept = kept_rules(&t.heads, &t.pos, rules, a, copy.component, keeping);
+        let kept = kept_rules(
+            heads,
+            pos,
+            size.rules,
+            a,
+            copy.component,
+            keeping,
+            &mut entries,
+        );
         let mut vars = *lasts;
         overlay(&mut vars, &latest, copy.component);
-        ends = put_copy(out, ends, var, kept, &t.pos, &t.neg, &t.added, &vars, lasts);
+        ends = put_copy(
+            out,
+            ends,
+            var,
+            &entries,
+            kept,
+            pos,
+            sources,
+            neg,
+            added,
+            &vars,
+            lasts,
+        );
         latest[a] = var;
-        keeping = mark(keeping, a, kept.rules);
+        keeping = mark(keeping, a, kept);
         fresh = copy.fresh;
         i += 1;
     }
@@ -178,42 +216,63 @@ fn put_backs<'a>(
     from: usize,
     to: usize,
     pos: &'a [u64; 192],
-    neg: &'a [u64; 192],
+    sources: &'a [u8; 192],
+    neg: &'a [u64; 128],
     added: &'a [u8; 192],
     lasts: &[u32; 64],
 ) -> usize
-    requires { ⌜ Values last (now lasts) × (to ≤ 192)
-        × (at + length (backsWords (now pos) (now neg) (now added) (now lasts) from to) ≤ length (now out)) ⌝ }
+    requires { ⌜ Sources (now sources) × Values last (now lasts) × (to ≤ 192)
+        × (at + length (backsWords (now pos) (gathered (now sources) (now neg)) (now added) (now lasts) from to) ≤ length (now out)) ⌝ }
     ensures { λ r. ⌜ Wrote (now (out .entry)) at
-        (backsWords (now (pos .entry)) (now (neg .entry)) (now (added .entry)) (now (lasts .entry)) from to) (now (out .exit)) r ⌝ }
+        (backsWords (now (pos .entry)) (gathered (now (sources .entry)) (now (neg .entry))) (now (added .entry)) (now (lasts .entry)) from to)
+        (now (out .exit)) r ⌝ }
 {
     let mut next = at;
     let mut j = from;
     while j < to {
-        next = put_back(out, next, pos[j], neg[j], added[j], lasts, lasts);
+        let set = negative_at(sources, neg, j);
+        next = put_back(out, next, pos[j], set, added[j], lasts, lasts);
         j += 1;
     }
     next
 }
 
 // All clauses.
-pub fn put_clauses(
+pub fn put_clauses<'a>(
     out: &mut [i32],
-    t: ProgramTable,
+    size: ProgramSize,
+    heads: &'a [u8; 192],
+    pos: &'a [u64; 192],
+    sources: &'a [u8; 192],
+    neg: &'a [u64; 128],
+    added: &'a [u8; 192],
     q: &[u8],
     names: &[u8; 64],
     sets: &[u64; 64],
 ) -> usize
-    requires { ⌜ Ready t (now names) (now sets) (now q)
-        × (length (signedWords (clauses (unfoldedIn t (now q)))) ≤ length (now out)) ⌝ }
-    ensures { λ r. ⌜ Wrote (now (out .entry)) 0 (signedWords (clauses (unfoldedIn t (now (q .entry))))) (now (out .exit)) r ⌝ }
+    requires { ⌜ Sources (now sources) × Ready (tableOf size (now heads) (now pos) (now sources) (now neg) (now added)) (now names) (now sets) (now q)
+        × (length (signedWords (clauses (unfoldedIn (tableOf size (now heads) (now pos) (now sources) (now neg) (now added)) (now q)))) ≤ length (now out)) ⌝ }
+    ensures { λ r. ⌜ Wrote (now (out .entry)) 0
+        (signedWords (clauses (unfoldedIn (tableOf size (now (heads .entry)) (now (pos .entry)) (now (sources .entry)) (now (neg .entry)) (now (added .entry))) (now (q .entry)))))
+        (now (out .exit)) r ⌝ }
 {
-    let from = t.rules;
-    let to = from + t.constraints;
+    let from = size.rules;
+    let to = from + size.constraints;
     let table = last_copies();
-    let lasts = table.vars;
-    let at = put_copies(out, t, q, names, sets, &lasts);
-    put_backs(out, at, from, to, &t.pos, &t.neg, &t.added, &lasts)
+    let at = put_copies(
+        out,
+        size,
+        heads,
+        pos,
+        sources,
+        neg,
+        added,
+        q,
+        names,
+        sets,
+        &table.vars,
+    );
+    put_backs(out, at, from, to, pos, sources, neg, added, &table.vars)
 }
 
 // How many words the clauses have, how many variables, and how many clauses there are.
@@ -225,12 +284,24 @@ pub struct Numbers {
 
 // A copy has two words and one clause of its own, a rule six words, two clauses and a variable, an atom of its body four words
 // and a clause; a constraint is one clause, of one word and one for each atom.
-pub fn numbers_of(t: ProgramTable, q: &[u8], names: &[u8; 64], sets: &[u64; 64]) -> Numbers
-    requires { ⌜ Ready t (now names) (now sets) (now q) ⌝ }
-    ensures { λ r. ⌜ NumbersOf (unfoldedIn t (now (q .entry))) r ⌝ }
+pub fn numbers_of<'a>(
+    size: ProgramSize,
+    heads: &'a [u8; 192],
+    pos: &'a [u64; 192],
+    sources: &'a [u8; 192],
+    neg: &'a [u64; 128],
+    added: &'a [u8; 192],
+    q: &[u8],
+    names: &[u8; 64],
+    sets: &[u64; 64],
+) -> Numbers
+    requires { ⌜ Sources (now sources)
+        × Ready (tableOf size (now heads) (now pos) (now sources) (now neg) (now added)) (now names) (now sets) (now q) ⌝ }
+    ensures { λ r. ⌜ NumbersOf
+        (unfoldedIn (tableOf size (now (heads .entry)) (now (pos .entry)) (now (sources .entry)) (now (neg .entry)) (now (added .entry))) (now (q .entry))) r ⌝ }
 {
     let count = q.len() - 3;
-    let totals = totals_of(t, q, names, sets);
+    let totals = totals_of(size, heads, pos, sources, neg, added, q, names, sets);
     let rules = totals.rules;
     let atoms = totals.atoms;
     let constraints = totals.constraints;

@@ -46,9 +46,9 @@ component-first P wf a l =
 -- The names and sets of a closed table are those of the components.
 module _ (P : Program) (wf : wellFormed P ≡ true) (rows new names sets : List ℕ) where
   components-are : EdgesOf P rows → ClosedTable (P .atoms) rows new → NamedBy (P .atoms) new names → SetsOf names (P .atoms) sets
-      → ComponentsOf P (record { edges = rows; ancestors = new; names = names; sets = sets })
+      → ComponentsOf P names sets
   components-are H C N S =
-      record { edges = H; named = record { long = N .long; name = λ a l. N .name a l .is ∙ (first-cong (bothWays new a) (sameComponent P a) a (range 0 a) (λ b k. same a l b (range-out 0 a b k .high)) ∙ sym (component-first P wf a l)) }; grouped = S }
+      record { named = record { long = N .long; name = λ a l. N .name a l .is ∙ (first-cong (bothWays new a) (sameComponent P a) a (range 0 a) (λ b k. same a l b (range-out 0 a b k .high)) ∙ sym (component-first P wf a l)) }; grouped = S }
     where
       table : Holds (P .atoms) (closure (into P) (P .atoms)) new
       table = C .closes (into P) H
@@ -57,7 +57,7 @@ module _ (P : Program) (wf : wellFormed P ≡ true) (rows new names sets : List 
       same a l b k = rw (table .bits a l b, table .bits b (omega arith) a) (mutual-reach P wf a b l (omega arith) (λ e. omega arith))
 
 pub graph-made : (n : ℕ) (rows new names sets : List ℕ) → ClosedTable n rows new → NamedBy n new names → SetsOf names n sets
-    → GraphOf n rows (record { edges = rows; ancestors = new; names = names; sets = sets })
+    → GraphOf n rows names sets
 graph-made n rows new names sets C N S =
     record { is = λ P wf n′ H. components-are P wf rows new names sets H (rw n′ C) (rw n′ N) (rw n′ S) }
 

@@ -1,24 +1,24 @@
 -- Laws of the loops over the closed table and over the components' names and sets.
-use mathlib.Core.Bool.{Bool, true, false, _&&_, _||_, cond, and-true, and-false}
+use mathlib.Core.Bool.{Bool, true, false, _&&_, _||_, cond, and-true, and-false, and-assoc}
 use mathlib.Core.List.{List, [], _∷_}
 use mathlib.Core.Path.{_≡_, refl, sym, _∙_, ap}
 use Prim.Native.Nat.{ℕ, _+_, _-_, _*_, _^_, _%_, _≤_, _<_}
 use native.Mathlib.Nat.{sub-zero, mod-eq-of-lt}
 use native.Mathlib.Omega.{arith}
-use borrow.Author.Tests.{eqb-true, eqb-false, eq-eqb, ne-eqb, lt-ltb, le-ltb, ltb-true, ltb-false, le-leb, lt-leb}
+use borrow.Author.Tests.{eqb-true, eqb-false, eq-eqb, ne-eqb, lt-ltb, le-ltb, ltb-true, ltb-false, leb-true, le-leb}
 use lib.Bits.{bitAnd}
 use lib.Dec.{eqb, ltb, leb}
 use lib.ListN.{length, getD, set, length-set, replicate, length-replicate, getD-replicate}
 use lib.Seq.{getD-set-same, getD-set-other}
 use Rattle.lists.specs.Lists.{all, filter, range}
-use Rattle.lists.proofs.Bools.{by-bool, bool-ext, true-false, and-left, and-right}
+use Rattle.lists.proofs.Bools.{by-bool, bool-ext, true-false, and-intro, and-left, and-right}
 use Rattle.lists.proofs.Members.{filter-cong, filter-none, filter-out, filter-range, range-left, range-over, range-out}
 use Rattle.unfolding.specs.Graph.{first}
 use Rattle.bits.specs.inner.Sets.{has, With, Size}
 use Rattle.bits.specs.inner.Visited.{listed, Lowest, Rest}
 use Rattle.bits.proofs.Digits.{zero-has}
 use Rattle.bits.proofs.Visiting.{listed-lowest, listed-none, has-some, rest-is}
-use Rattle.components.specs.inner.Reachability.{bothWays, NameOf, NamedBy, NamesLow, SetsOf, named, namesFit, SetsFit}
+use Rattle.components.specs.inner.Reachability.{bothWays, NameOf, NamedBy, NamesLow, SetsOf, named, namesFit, Larger, Largest}
 
 -- The first number that passes both tests, by the list of those that pass the one.
 first-filter : (p q : ℕ → Bool) (d : ℕ) (l : List ℕ) → first (λ b. p b && q b) d l ≡ first q d (filter p l)
@@ -154,28 +154,47 @@ sets-named names n sets S l c h =
     filter-range (has (getD sets c 0)) n 64 l (λ a t. ltb-true a n (and-left (ltb a n) (eqb (getD names a 0) c) (sym (S .members c h a) ∙ t)))
     ∙ filter-cong (has (getD sets c 0)) (λ a. eqb (getD names a 0) c) (range 0 n) (λ a m. let r = range-out 0 n a m .high in S .members c h a ∙ (rw (lt-ltb a n (omega arith)) refl))
 
--- Question 7.
-pub record Fitting (most n : ℕ) (sets : List ℕ) (c : ℕ) : Type 0 where
-  pub same : (names : List ℕ) → SetsOf names n sets → all (λ i. leb (length (named names i n)) most) (range c (n - c)) ≡ namesFit most names n
+-- The largest set: r is the size of the largest of those before c.
+pub record Growing (n : ℕ) (sets : List ℕ) (r c : ℕ) : Type 0 where
+  pub same : (names : List ℕ) → SetsOf names n sets → (most : ℕ)
+      → (leb r most && all (λ i. leb (length (named names i n)) most) (range c (n - c))) ≡ namesFit most names n
 
-module _ (most n : ℕ) (sets : List ℕ) where
-  pub fitting-start : Fitting most n sets 0
+pub larger-second : (a b : ℕ) → a < b → Larger a b b
+larger-second a b l = record {
+  is = λ most. bool-ext
+      (λ t. let h = leb-true b most t in and-intro (le-leb a most (omega arith)) t)
+      (λ t. and-right (leb a most) (leb b most) t);
+}
+
+pub larger-first : (a b : ℕ) → b ≤ a → Larger a b a
+larger-first a b l = record {
+  is = λ most. bool-ext
+      (λ t. let h = leb-true a most t in and-intro t (le-leb b most (omega arith)))
+      (λ t. and-left (leb a most) (leb b most) t);
+}
+
+module _ (n : ℕ) (sets : List ℕ) where
+  pub growing-start : Growing n sets 0 0
   unfolding namesFit
-  fitting-start = record { same = λ names S. ap (λ k. all (λ i. leb (length (named names i n)) most) (range 0 k)) (sub-zero n) }
+  growing-start = record { same = λ names S most. rw (le-leb 0 most (omega arith)) (ap (λ k. all (λ i. leb (length (named names i n)) most) (range 0 k)) (sub-zero n)) }
 
-  module _ (c : ℕ) (F : Fitting most n sets c) (l : c < n) (low : n ≤ 64) (x : ℕ) (Z : Size (getD sets c 0) x) where
-    next : (names : List ℕ) → SetsOf names n sets → (leb x most && all (λ i. leb (length (named names i n)) most) (range (c + 1) (n - (c + 1)))) ≡ namesFit most names n
-    unfolding all listed
-    next names S =
-        ap (λ k. leb k most && all (λ i. leb (length (named names i n)) most) (range (c + 1) (n - (c + 1)))) (Z .is ∙ ap length (sets-named names n sets S low c (omega arith)))
-        ∙ (sym (ap (all (λ i. leb (length (named names i n)) most)) (range-left c n l)) ∙ F .same names S)
+  pub growing-turn : (r c x y : ℕ) → Growing n sets r c → c < n → n ≤ 64 → Size (getD sets c 0) x → Larger r x y → Growing n sets y (c + 1)
+  unfolding all listed
+  growing-turn r c x y G l low Z M =
+      record {
+        same = λ names S most.
+            let rest = all (λ i. leb (length (named names i n)) most) (range (c + 1) (n - (c + 1))) in
+            ap (λ b. b && rest) (M .is most)
+            ∙ (and-assoc (leb r most) (leb x most) rest
+            ∙ (ap (λ k. leb r most && (leb k most && rest)) (Z .is ∙ ap length (sets-named names n sets S low c (omega arith)))
+            ∙ (sym (ap (λ k. leb r most && all (λ i. leb (length (named names i n)) most) k) (range-left c n l)) ∙ G .same names S most)));
+      }
 
-    pub fitting-wide : most < x → SetsFit most n sets false
-    fitting-wide h = record { is = λ names S. rw (lt-leb x most h) at (next names S) }
-
-    pub fitting-turn : x ≤ most → Fitting most n sets (c + 1)
-    fitting-turn h = record { same = λ names S. rw (le-leb x most h) at (next names S) }
-
-  pub fitting-end : (c : ℕ) → Fitting most n sets c → n ≤ c → SetsFit most n sets true
+  pub growing-end : (r c : ℕ) → Growing n sets r c → n ≤ c → Largest n sets r
   unfolding all
-  fitting-end c F l = record { is = λ names S. sym (ap (all (λ i. leb (length (named names i n)) most)) (range-over c n l)) ∙ F .same names S }
+  growing-end r c G l =
+      record {
+        is = λ names S most.
+            sym (and-true (leb r most))
+            ∙ (sym (ap (λ k. leb r most && all (λ i. leb (length (named names i n)) most) k) (range-over c n l)) ∙ G .same names S most);
+      }

@@ -1,4 +1,4 @@
-// Components of a program's positive dependency graph, from a table of 64 rows closed row by row; question 7.
+// Components of a program's positive dependency graph, from a table of 64 rows closed row by row, and how large they are.
 use bits::has;
 use bits::lowest;
 use bits::rest;
@@ -9,7 +9,7 @@ ghost use mathlib.Core.Path.{_≡_};
 ghost use Prim.Native.Nat.{_≤_, _<_};
 ghost use lib.ListN.{length, replicate};
 ghost use Rattle.components.specs.inner.Reachability.{RowThrough, ClosedBy, ClosedTable};
-ghost use Rattle.components.specs.inner.Reachability.{NameOf, NamedBy, NamesLow, SetsOf, SetsFit, GraphOf};
+ghost use Rattle.components.specs.inner.Reachability.{NameOf, NamedBy, NamesLow, SetsOf, Larger, Largest, GraphOf};
 
 // One row of a round for k, whose own row is given.
 fn row_through(x: u64, k: usize, row: u64) -> u64
@@ -91,44 +91,44 @@ fn store_sets(sets: &mut [u64; 64], names: &[u8; 64], n: usize)
     }
 }
 
-// Question 7: has every one of the first n sets at most so many atoms?
-pub fn fits(sets: &[u64; 64], n: usize, most: usize) -> bool
-    requires { ⌜ n ≤ 64 ⌝ }
-    ensures { λ r. ⌜ SetsFit most n (now (sets .entry)) r ⌝ }
+// The larger of two numbers.
+fn larger(a: usize, b: usize) -> usize
+    ensures { λ r. ⌜ Larger a b r ⌝ }
 {
+    if a < b {
+        return b;
+    }
+    a
+}
+
+// How many atoms the largest of the first n sets has.
+pub fn largest(sets: &[u64; 64], n: usize) -> usize
+    requires { ⌜ n ≤ 64 ⌝ }
+    ensures { λ r. ⌜ Largest n (now (sets .entry)) r ⌝ }
+{
+    let mut most = 0;
     let mut c = 0;
     while c < n {
-        if most < size(sets[c]) as usize {
-            return false;
-        }
+        most = larger(most, size(sets[c]) as usize);
         c += 1;
     }
-    true
+    most
 }
 
-// The edges into each atom, the atoms that lead to it, its component's name, and the set of each name.
-pub struct Components {
-    pub edges: [u64; 64],
-    pub ancestors: [u64; 64],
-    pub names: [u8; 64],
-    pub sets: [u64; 64],
-}
-
-// The components of a program of n atoms, by its edges.
-pub fn components_of(n: usize, edges: [u64; 64]) -> Components
-    requires { ⌜ n ≤ 64 ⌝ }
-    ensures { λ r. ⌜ GraphOf n edges r ⌝ }
+// The components of a program of n atoms, by its edges: each atom's component's name, and the set of each name. The atoms that lead to each
+// are left too, of which nothing is promised: the count puts records in order by them.
+pub fn components_of(
+    n: usize,
+    edges: &[u64; 64],
+    ancestors: &mut [u64; 64],
+    names: &mut [u8; 64],
+    sets: &mut [u64; 64],
+)
+    requires { ⌜ (n ≤ 64) × (length (now edges) ≡ 64) × (length (now names) ≡ 64) × (now sets ≡ replicate 64 0) ⌝ }
+    ensures { λ r. ⌜ GraphOf n (now (edges .entry)) (now (names .exit)) (now (sets .exit)) ⌝ }
 {
-    let mut names = [0u8; 64];
-    let mut sets = [0u64; 64];
-    let mut ancestors = edges;
-    close(&mut ancestors, n);
-    store_names(&mut names, &ancestors, n);
-    store_sets(&mut sets, &names, n);
-    Components {
-        edges,
-        ancestors,
-        names,
-        sets,
-    }
+    *ancestors = *edges;
+    close(ancestors, n);
+    store_names(names, ancestors, n);
+    store_sets(sets, names, n);
 }

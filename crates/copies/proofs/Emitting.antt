@@ -7,14 +7,13 @@ use lib.ListN.{length, length-map, getD, set, replicate}
 use Rattle.lists.specs.Lists.{range}
 use Rattle.lists.proofs.Nodup.{length-range}
 use Rattle.unfolding.specs.Unfolded.{Copy, last}
-use Rattle.program.specs.declared.ProgramTable.{ProgramTable}
+use Rattle.program.specs.inner.Held.{ProgramTable}
 use Rattle.copies.specs.inner.Tables.{Values, Overlaid}
 use Rattle.copies.specs.inner.Bodies.{entryBody, bodiesBy}
 use Rattle.copies.specs.inner.Made.{EntryAt, Made}
 use Rattle.copies.specs.inner.Kept.{Marked, Kept}
 use Rattle.copies.specs.inner.Ready.{Ready, unfoldedIn}
 use Rattle.copies.specs.declared.EntryCopy.{EntryCopy}
-use Rattle.copies.specs.declared.KeptRules.{KeptRules}
 use Rattle.copies.proofs.Going.{copyOf, CopiesLeft, copies-start, copies-here, copies-turn, copies-end, entry-at, Tracks, tracks-start, tracks-turn, copy-is, var-small, vars-small}
 
 -- The tables follow the copies made so far, and what holds of the copies that are left.
@@ -49,16 +48,16 @@ module _ (t : ProgramTable) (names sets q : List ℕ) (R : Ready t names sets q)
         pub emitting-var : c .var < 1024
         emitting-var = var-small t names sets q R i (E .left .extra) (E .left .past) (E .left .few) within latest fresh (E .left .rest .tracks) c M
 
-        module _ (k : KeptRules) (K : Kept (t .heads) (t .pos) (t .rules) (c .atom) (c .component) keeping k)
+        module _ (list : List ℕ) (k : ℕ) (K : Kept (t .heads) (t .pos) (t .rules) (c .atom) (c .component) keeping list k)
             (lasts vars : List ℕ) (F : Values last lasts) (O : Overlaid (c .component) latest lasts vars) where
           abbrev copy : Copy
-          copy = record { atom = c .atom; var = c .var; kept = bodiesBy (t .pos) (t .neg) (t .added) vars (k .entries) (k .rules) }
+          copy = record { atom = c .atom; var = c .var; kept = bodiesBy (t .pos) (t .neg) (t .added) vars list k }
 
           same : copyOf t q i (E .left .extra) (E .left .past) ≡ copy
-          same = copy-is t names sets q R i (E .left .extra) (E .left .past) (E .left .few) within latest fresh (E .left .rest .tracks) c M keeping (E .left .marks) k K lasts vars F O
+          same = copy-is t names sets q R i (E .left .extra) (E .left .past) (E .left .few) within latest fresh (E .left .rest .tracks) c M keeping (E .left .marks) list k K lasts vars F O
 
           pub emitting-vars : (b : ℕ) → b < 64 → getD vars b 0 < 1024
-          emitting-vars = vars-small t names sets q R i (E .left .extra) (E .left .past) (E .left .few) within latest fresh (E .left .rest .tracks) c M keeping (E .left .marks) k K lasts vars F O
+          emitting-vars = vars-small t names sets q R i (E .left .extra) (E .left .past) (E .left .few) within latest fresh (E .left .rest .tracks) c M keeping (E .left .marks) list k K lasts vars F O
 
           -- What holds, with the copy in front.
           pub emitting-here : Some (λ cs. Rest (copy ∷ cs))
@@ -67,18 +66,18 @@ module _ (t : ProgramTable) (names sets q : List ℕ) (R : Ready t names sets q)
               some : (cs : List Copy) → Rest (copyOf t q i (E .left .extra) (E .left .past) ∷ cs) → Some (λ cs. Rest (copy ∷ cs))
               some cs h = record { copies = cs; holds = subst (λ d. Rest (d ∷ cs)) same h }
 
-          number : length (copyOf t q i (E .left .extra) (E .left .past) .kept) ≡ k .rules
+          number : length (copyOf t q i (E .left .extra) (E .left .past) .kept) ≡ k
           unfolding bodiesBy
           number =
               ap (λ (d : Copy). length (d .kept)) same
-              ∙ (length-map (range 0 (k .rules)) (λ j. entryBody (t .pos) (t .neg) (t .added) vars (getD (k .entries) j 0)) ∙ length-range 0 (k .rules))
+              ∙ (length-map (range 0 k) (λ j. entryBody (t .pos) (t .neg) (t .added) vars (getD list j 0)) ∙ length-range 0 k)
 
           -- One copy more.
-          pub emitting-turn : (next : ℕ) (Rest′ : List Copy → Type 0) → Marked keeping (c .atom) (k .rules) next → ((cs : List Copy) → Rest (copy ∷ cs) → Rest′ cs)
+          pub emitting-turn : (next : ℕ) (Rest′ : List Copy → Type 0) → Marked keeping (c .atom) k next → ((cs : List Copy) → Rest (copy ∷ cs) → Rest′ cs)
               → Emitting t q (i + 1) next (set latest (c .atom) (c .var)) (c .fresh) Rest′
           emitting-turn next Rest′ N f =
               record {
-                left = copies-turn t q i keeping (Tracked (t .atoms) latest fresh Rest) (E .left) within (c .atom) (k .rules) next (Tracked (t .atoms) (set latest (c .atom) (c .var)) (c .fresh) Rest′) (M .atom) number N
+                left = copies-turn t q i keeping (Tracked (t .atoms) latest fresh Rest) (E .left) within (c .atom) k next (Tracked (t .atoms) (set latest (c .atom) (c .var)) (c .fresh) Rest′) (M .atom) number N
                     (λ cs T. record {
                       tracks = tracks-turn t names sets q R i (E .left .extra) (E .left .past) (E .left .few) within latest fresh (E .left .rest .tracks) c M;
                       rest = f cs (subst (λ d. Rest (d ∷ cs)) same (T .rest));

@@ -17,15 +17,13 @@ use Rattle.unfolding.specs.Unfolded.{Copy, last, latestKeeps, latest, replaced,
 use Rattle.bits.specs.inner.Sets.{has}
 use Rattle.bits.proofs.Digits.{zero-has}
 use Rattle.sheet.specs.Sequence.{entries}
-use Rattle.program.specs.inner.Held.{programIn}
-use Rattle.program.specs.declared.ProgramTable.{ProgramTable}
+use Rattle.program.specs.inner.Held.{ProgramTable, programIn}
 use Rattle.copies.specs.inner.Tables.{Values, Overlaid}
 use Rattle.copies.specs.inner.Bodies.{bodiesBy}
 use Rattle.copies.specs.inner.Made.{EntryAt, again, componentSet, Made}
 use Rattle.copies.specs.inner.Kept.{Marked, Kept}
 use Rattle.copies.specs.inner.Ready.{Ready, unfoldedIn}
 use Rattle.copies.specs.declared.EntryCopy.{EntryCopy}
-use Rattle.copies.specs.declared.KeptRules.{KeptRules}
 use Rattle.copies.proofs.Tables.{stored}
 use Rattle.copies.proofs.Placing.{entry-below}
 use Rattle.copies.proofs.Selecting.{name-low, component-has, kept-bodies}
@@ -170,8 +168,8 @@ module _ (t : ProgramTable) (names sets q : List ℕ) (R : Ready t names sets q)
       most false = omega arith
 
   -- The rules of the copy, over the variables that stand in them.
-  module _ (keeping : ℕ) (marks : (b : ℕ) → has keeping b ≡ latestKeeps past b) (k : KeptRules)
-      (K : Kept (t .heads) (t .pos) (t .rules) (c .atom) (c .component) keeping k)
+  module _ (keeping : ℕ) (marks : (b : ℕ) → has keeping b ≡ latestKeeps past b) (list : List ℕ) (k : ℕ)
+      (K : Kept (t .heads) (t .pos) (t .rules) (c .atom) (c .component) keeping list k)
       (lasts vars : List ℕ) (F : Values last lasts) (O : Overlaid (c .component) table lasts vars) where
     stands : (b : ℕ) → b < t .atoms → getD vars b 0 ≡ replaced (programIn t) past (getD q i 0) b
     unfolding replaced
@@ -181,11 +179,11 @@ module _ (t : ProgramTable) (names sets q : List ℕ) (R : Ready t names sets q)
         ∙ (ap (λ (x : Bool). cond x (getD table b 0) (getD lasts b 0)) (ap (λ x. has x b) (M .component ∙ ap (componentSet names sets) (M .atom)) ∙ component-has t names sets q R (getD q i 0) b a-low l)
         ∙ ap₂ (λ x y. cond (sameComponent (programIn t) (getD q i 0) b) x y) (T .is b (omega arith)) (F .is b (omega arith)))
 
-    pub copy-is : copyOf t q i e past ≡ record { atom = c .atom; var = c .var; kept = bodiesBy (t .pos) (t .neg) (t .added) vars (k .entries) (k .rules) }
+    pub copy-is : copyOf t q i e past ≡ record { atom = c .atom; var = c .var; kept = bodiesBy (t .pos) (t .neg) (t .added) vars list k }
     copy-is =
-        let at-atom = subst (λ x. Kept (t .heads) (t .pos) (t .rules) x (componentSet names sets x) keeping k) (M .atom)
-        (subst (λ x. Kept (t .heads) (t .pos) (t .rules) (c .atom) x keeping k) (M .component) K) in
-        let bodies = kept-bodies t names sets q R past keeping marks (getD q i 0) a-low k at-atom vars stands in
+        let at-atom = subst (λ x. Kept (t .heads) (t .pos) (t .rules) x (componentSet names sets x) keeping list k) (M .atom)
+        (subst (λ x. Kept (t .heads) (t .pos) (t .rules) (c .atom) x keeping list k) (M .component) K) in
+        let bodies = kept-bodies t names sets q R past keeping marks (getD q i 0) a-low list k at-atom vars stands in
         rw (M .atom, var-is, bodies) refl
 
     pub vars-small : (b : ℕ) → b < 64 → getD vars b 0 < 1024

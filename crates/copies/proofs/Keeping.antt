@@ -134,11 +134,11 @@ module _ (heads pos : List ℕ) (rules a component keeping : ℕ) where
   unfolding filter
   left-none j l = ap (filter keep) (range-over j rules l)
 
-  pub keeping-start : Keeping heads pos rules a component keeping 0 (replicate 192 0) 0
+  pub keeping-start : (entries : List ℕ) → length entries ≡ 192 → Keeping heads pos rules a component keeping 0 entries 0
   unfolding range
-  keeping-start =
+  keeping-start entries l =
       record {
-        long = length-replicate {A = ℕ} 192 0;
+        long = l;
         few = omega arith;
         within = omega arith;
         low = λ i h. absurd (omega arith);
@@ -180,10 +180,11 @@ module _ (heads pos : List ℕ) (rules a component keeping : ℕ) where
       pub keeping-turn : (b : Bool) (kept′ : ℕ) → b ≡ keeps a component keeping (getD heads j 0) (getD pos j 0) → kept′ ≡ cond b (kept + 1) kept → Next kept′
       keeping-turn b kept′ e f = by-bool b (λ t. rw (f, t) (yes (sym e ∙ t))) (λ t. rw (f, t) (no (sym e ∙ t)))
 
-    pub keeping-end : rules ≤ j → rules ≤ 192 → Kept heads pos rules a component keeping (record { entries = entries; rules = kept })
+    pub keeping-end : rules ≤ j → rules ≤ 192 → Kept heads pos rules a component keeping entries kept
     keeping-end l most =
         record {
-          entries = sym (append-nil (firsts entries kept)) ∙ (ap (λ es. firsts entries kept ++ es) (sym (left-none j l)) ∙ K .rest);
+          long = K .long;
+          are = sym (append-nil (firsts entries kept)) ∙ (ap (λ es. firsts entries kept ++ es) (sym (left-none j l)) ∙ K .rest);
           inside = record { few = let f = K .few in let w = K .within in omega arith; low = K .low };
         }
 
@@ -259,28 +260,31 @@ module _ (pos neg added : List ℕ) where
         so-far = record { is = λ i l. absurd (omega arith); small = record { low = λ i l. let e = getD-replicate {A = ℕ} 192 i 0 0 l in omega arith } };
       }
 
-  pub sizing-fits : (j k : ℕ) → k ≡ bodyAtoms (getD pos j 0) (getD neg j 0) (getD added j 0) → k < 256
-  sizing-fits j k e = let f = atoms-few (getD pos j 0) (getD neg j 0) (getD added j 0) in omega arith
+  pub sizing-fits : (j n k : ℕ) → k ≡ bodyAtoms (getD pos j 0) n (getD added j 0) → k < 256
+  sizing-fits j n k e = let f = atoms-few (getD pos j 0) n (getD added j 0) in omega arith
 
   module _ (rules : ℕ) (sizes : List ℕ) (j : ℕ) (S : Sizing pos neg added rules sizes j) (lt : j < rules) (most : rules ≤ 192) where
-    pub sizing-turn : (k : ℕ) → k ≡ bodyAtoms (getD pos j 0) (getD neg j 0) (getD added j 0) → Sizing pos neg added rules (set sizes j k) (j + 1)
-    sizing-turn k e =
+    pub sizing-turn : (n k : ℕ) → n ≡ getD neg j 0 → k ≡ bodyAtoms (getD pos j 0) n (getD added j 0) → Sizing pos neg added rules (set sizes j k) (j + 1)
+    sizing-turn n k d e =
         record { long = length-set sizes j k ∙ S .long; within = omega arith; so-far = record { is = same; small = record { low = few } } }
       where
         index : j < length sizes
         index = let z = S .long in omega arith
 
+        here : k ≡ bodyAtoms (getD pos j 0) (getD neg j 0) (getD added j 0)
+        here = e ∙ ap (λ x. bodyAtoms (getD pos j 0) x (getD added j 0)) d
+
         same : (i : ℕ) → i < j + 1 → getD (set sizes j k) i 0 ≡ bodyAtoms (getD pos i 0) (getD neg i 0) (getD added i 0)
         same i h =
             stored sizes j k i index
             ∙ by-bool (eqb i j)
-            (λ t. rw t (e ∙ ap (λ x. bodyAtoms (getD pos x 0) (getD neg x 0) (getD added x 0)) (sym (eqb-true i j t))))
+            (λ t. rw t (here ∙ ap (λ x. bodyAtoms (getD pos x 0) (getD neg x 0) (getD added x 0)) (sym (eqb-true i j t))))
             (λ f. rw f (let ne = eqb-false i j f in S .so-far .is i (omega arith)))
 
         few : (i : ℕ) → i < 192 → getD (set sizes j k) i 0 ≤ 129
         few i h =
             subst (λ x. x ≤ 129) (sym (stored sizes j k i index))
-            (by-bool (eqb i j) (λ t. rw t (let f = atoms-few (getD pos j 0) (getD neg j 0) (getD added j 0) in omega arith)) (λ f. rw f (S .so-far .small .low i h)))
+            (by-bool (eqb i j) (λ t. rw t (let f = atoms-few (getD pos j 0) n (getD added j 0) in omega arith)) (λ f. rw f (S .so-far .small .low i h)))
 
   pub sizing-end : (rules : ℕ) (sizes : List ℕ) (j : ℕ) → Sizing pos neg added rules sizes j → rules ≤ j → SizesOf pos neg added rules sizes
   sizing-end rules sizes j S l = record { is = λ i h. S .so-far .is i (omega arith); small = S .so-far .small }
@@ -308,16 +312,17 @@ module _ (pos neg added : List ℕ) (from to : ℕ) where
   adding-start l = record { start = omega arith; within = l; small = omega arith; rest = omega arith }
 
   module _ (atoms j : ℕ) (K : Adding pos neg added from to atoms j) where
-    pub adding-room : (n : ℕ) → j < to → to ≤ 192 → n ≡ bodyAtoms (getD pos j 0) (getD neg j 0) (getD added j 0) → atoms + n < 2 ^ 64
-    adding-room n l m e = let s = K .small in let f = atoms-few (getD pos j 0) (getD neg j 0) (getD added j 0) in omega arith
+    pub adding-room : (n k : ℕ) → j < to → to ≤ 192 → k ≡ bodyAtoms (getD pos j 0) n (getD added j 0) → atoms + k < 2 ^ 64
+    adding-room n k l m e = let s = K .small in let f = atoms-few (getD pos j 0) n (getD added j 0) in omega arith
 
-    pub adding-turn : (n : ℕ) → j < to → n ≡ bodyAtoms (getD pos j 0) (getD neg j 0) (getD added j 0) → Adding pos neg added from to (atoms + n) (j + 1)
+    pub adding-turn : (n k : ℕ) → j < to → n ≡ getD neg j 0 → k ≡ bodyAtoms (getD pos j 0) n (getD added j 0) → Adding pos neg added from to (atoms + k) (j + 1)
     unfolding atomsAt bodiesAt
-    adding-turn n l e =
-        let first : atomsAt pos neg added j to ≡ n + atomsAt pos neg added (j + 1) to =
+    adding-turn n k l d e =
+        let here : k ≡ bodyAtoms (getD pos j 0) (getD neg j 0) (getD added j 0) = e ∙ ap (λ x. bodyAtoms (getD pos j 0) x (getD added j 0)) d in
+        let first : atomsAt pos neg added j to ≡ k + atomsAt pos neg added (j + 1) to =
         ap (λ es. atomCount (map (λ i. bodyOf (getD pos i 0) (getD neg i 0) (getD added i 0)) es)) (range-left j to l)
         ∙ (atoms-append (bodyOf (getD pos j 0) (getD neg j 0) (getD added j 0) ∷ []) (bodiesAt pos neg added (j + 1) (to - (j + 1)))
-        ∙ ap (λ x. x + atomsAt pos neg added (j + 1) to) (atoms-one (getD pos j 0) (getD neg j 0) (getD added j 0) ∙ sym e)) in
+        ∙ ap (λ x. x + atomsAt pos neg added (j + 1) to) (atoms-one (getD pos j 0) (getD neg j 0) (getD added j 0) ∙ sym here)) in
         record {
           start = let f = K .start in omega arith;
           within = omega arith;

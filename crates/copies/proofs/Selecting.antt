@@ -16,14 +16,12 @@ use Rattle.unfolding.specs.Unfolded.{Copy, last, latestKeeps, usable, replaced,
 use Rattle.unfolding.proofs.Reach.{same-refl, component-smallest, component-same, component-joins}
 use Rattle.bits.specs.inner.Sets.{has}
 use Rattle.bits.specs.inner.Visited.{listed}
-use Rattle.program.specs.inner.Held.{addedAtom, bodyOf, ruleOf, rulesAt, programIn}
-use Rattle.program.specs.declared.ProgramTable.{ProgramTable}
+use Rattle.program.specs.inner.Held.{ProgramTable, addedAtom, bodyOf, ruleOf, rulesAt, programIn}
 use Rattle.copies.specs.inner.Bodies.{bodyBy, entryBody, bodiesBy, atomCount}
 use Rattle.copies.specs.inner.Made.{componentSet}
 use Rattle.copies.specs.inner.Kept.{keeps, keptEntries, Kept, SizesOf, KeptCounted}
 use Rattle.copies.specs.inner.Ready.{Ready}
 use Rattle.copies.specs.declared.KeptNumbers.{KeptNumbers}
-use Rattle.copies.specs.declared.KeptRules.{KeptRules}
 use Rattle.copies.proofs.Keeping.{sum-atoms}
 
 filter-map : {A B : Type 0} (p : B → Bool) (f : A → B) (l : List A) → filter p (map f l) ≡ map f (filter (λ x. p (f x)) l)
@@ -116,16 +114,16 @@ module _ (t : ProgramTable) (names sets q : List ℕ) (R : Ready t names sets q)
       pub kept-atoms : atomCount (keptFor P past a) ≡ r .atoms
       kept-atoms = ap atomCount kept-are ∙ (atoms-renamed (replaced P past a) body entries ∙ sym (N .sum ∙ sum-atoms (t .pos) (t .neg) (t .added) (t .rules) sizes S entries entry-low))
 
-    module _ (r : KeptRules) (K : Kept (t .heads) (t .pos) (t .rules) a (componentSet names sets a) keeping r) where
-      pub kept-bodies : (vars : List ℕ) → ((b : ℕ) → b < t .atoms → getD vars b 0 ≡ replaced P past a b) → keptFor P past a ≡ bodiesBy (t .pos) (t .neg) (t .added) vars (r .entries) (r .rules)
+    module _ (list : List ℕ) (k : ℕ) (K : Kept (t .heads) (t .pos) (t .rules) a (componentSet names sets a) keeping list k) where
+      pub kept-bodies : (vars : List ℕ) → ((b : ℕ) → b < t .atoms → getD vars b 0 ≡ replaced P past a b) → keptFor P past a ≡ bodiesBy (t .pos) (t .neg) (t .added) vars list k
       unfolding bodiesBy keptEntries entryBody bodyBy renamed bodyOf
       kept-bodies vars h =
           kept-are
           ∙ (map-cong (λ i. renamed (replaced P past a) (body i)) (entryBody (t .pos) (t .neg) (t .added) vars) entries each
-          ∙ (ap (map (entryBody (t .pos) (t .neg) (t .added) vars)) (sym (K .entries)) ∙ map-map (entryBody (t .pos) (t .neg) (t .added) vars) (λ j. getD (r .entries) j 0) (range 0 (r .rules))))
+          ∙ (ap (map (entryBody (t .pos) (t .neg) (t .added) vars)) (sym (K .are)) ∙ map-map (entryBody (t .pos) (t .neg) (t .added) vars) (λ j. getD list j 0) (range 0 k)))
         where
           each : (i : ℕ) → List·Memᴰ i entries → renamed (replaced P past a) (body i) ≡ entryBody (t .pos) (t .neg) (t .added) vars i
           each i m =
               let l = entry-low i m in
               ap (λ ps. record { pos = ps; neg = map last (listed (getD (t .neg) i 0) ++ addedAtom (getD (t .added) i 0)) })
-              (map-cong (replaced P past a) (λ b. getD vars b 0) (listed (getD (t .pos) i 0)) (λ b k. sym (h b (below-at (t .atoms) (listed (getD (t .pos) i 0)) (rule-low i l) b k))))
+              (map-cong (replaced P past a) (λ b. getD vars b 0) (listed (getD (t .pos) i 0)) (λ b x. sym (h b (below-at (t .atoms) (listed (getD (t .pos) i 0)) (rule-low i l) b x))))

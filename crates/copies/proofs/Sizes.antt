@@ -17,8 +17,7 @@ use Rattle.unfolding.proofs.Numbering.{counted, copies-length}
 use Rattle.bits.specs.inner.Visited.{listed}
 use Rattle.bits.proofs.Visiting.{listed-few}
 use Rattle.sheet.specs.Sequence.{entries}
-use Rattle.program.specs.inner.Held.{addedAtom, bodyOf, ruleOf, rulesAt, bodiesAt, programIn}
-use Rattle.program.specs.declared.ProgramTable.{ProgramTable}
+use Rattle.program.specs.inner.Held.{ProgramTable, addedAtom, bodyOf, ruleOf, rulesAt, bodiesAt, programIn}
 use Rattle.copies.specs.inner.Tables.{Values}
 use Rattle.copies.specs.inner.Bodies.{bodyBy, entryBody, atomCount, atomsAt}
 use Rattle.copies.specs.inner.Ready.{Ready, unfoldedIn}

@@ -7,8 +7,7 @@ use lib.ListN.{length, length-append, getD}
 use Rattle.asp.specs.Program.{Body}
 use Rattle.unfolding.specs.Unfolded.{Copy, keptFor}
 use Rattle.bits.specs.inner.Sets.{ByteAt}
-use Rattle.program.specs.inner.Held.{programIn}
-use Rattle.program.specs.declared.ProgramTable.{ProgramTable}
+use Rattle.program.specs.inner.Held.{ProgramTable, programIn}
 use Rattle.copies.specs.inner.Bodies.{atomCount, atomsAt}
 use Rattle.copies.specs.inner.Made.{componentSet}
 use Rattle.copies.specs.inner.Kept.{Marked, SizesOf, KeptCounted}

@@ -8,7 +8,8 @@ use bits::subset;
 use bits::wide;
 use bits::with_if;
 use bits::without;
-use program::ProgramTable;
+use program::ProgramSize;
+use program::negative_at;
 ghost use mathlib.Core.Bool.{true, cond};
 ghost use mathlib.Core.Path.{_≡_};
 ghost use Prim.Native.Nat.{_+_, _≤_, _<_};
@@ -16,6 +17,7 @@ ghost use lib.ListN.{length, getD};
 ghost use Rattle.lists.specs.Lists.{below};
 ghost use Rattle.unfolding.specs.Unfolded.{last};
 ghost use Rattle.sheet.specs.Sequence.{entries};
+ghost use Rattle.program.specs.inner.Held.{Sources, gathered, tableOf};
 ghost use Rattle.copies.specs.inner.Tables.{Values, Overlaid};
 ghost use Rattle.copies.specs.inner.Bodies.{negativeAtoms, bodyAtoms, atomsAt};
 ghost use Rattle.copies.specs.inner.Made.{EntryAt, LastPlaces, componentSet, Made};
@@ -176,12 +178,6 @@ pub fn mark(keeping: u64, a: usize, rules: usize) -> u64
     with_if(without(keeping, a), a, 0 < rules)
 }
 
-// The rules kept for a copy, by their entries in the table, and how many there are.
-pub struct KeptRules {
-    pub entries: [u8; 192],
-    pub rules: usize,
-}
-
 // The j-th of k entries that are listed.
 pub fn entry_at(entries: &[u8; 192], k: usize, j: usize) -> usize
     requires { ⌜ Inside (now entries) k × (j < k) ⌝ }
@@ -190,7 +186,7 @@ pub fn entry_at(entries: &[u8; 192], k: usize, j: usize) -> usize
     wide(entries[j])
 }
 
-// The rules kept for a copy of a, of the first so many entries.
+// The rules kept for a copy of a, of the first so many entries: their entries are listed, and how many there are is returned.
 pub fn kept_rules<'a>(
     heads: &'a [u8; 192],
     pos: &'a [u64; 192],
@@ -198,11 +194,11 @@ pub fn kept_rules<'a>(
     a: usize,
     component: u64,
     keeping: u64,
-) -> KeptRules
-    requires { ⌜ rules ≤ 192 ⌝ }
-    ensures { λ r. ⌜ Kept (now (heads .entry)) (now (pos .entry)) rules a component keeping r ⌝ }
+    entries: &mut [u8; 192],
+) -> usize
+    requires { ⌜ (rules ≤ 192) × (length (now entries) ≡ 192) ⌝ }
+    ensures { λ r. ⌜ Kept (now (heads .entry)) (now (pos .entry)) rules a component keeping (now (entries .exit)) r ⌝ }
 {
-    let mut entries = [0u8; 192];
     let mut kept = 0;
     let mut j = 0;
     while j < rules {
@@ -211,10 +207,7 @@ pub fn kept_rules<'a>(
         kept = add_if(keep, kept, 1);
         j += 1;
     }
-    KeptRules {
-        entries,
-        rules: kept,
-    }
+    kept
 }
 
 // For each entry how many atoms its body has.
@@ -225,17 +218,19 @@ pub struct BodySizes {
 // The sizes of the first so many bodies.
 fn body_sizes<'a>(
     pos: &'a [u64; 192],
-    neg: &'a [u64; 192],
+    sources: &'a [u8; 192],
+    neg: &'a [u64; 128],
     added: &'a [u8; 192],
     rules: usize,
 ) -> BodySizes
-    requires { ⌜ rules ≤ 192 ⌝ }
-    ensures { λ r. ⌜ SizesOf (now (pos .entry)) (now (neg .entry)) (now (added .entry)) rules (r .sizes) ⌝ }
+    requires { ⌜ Sources (now sources) × (rules ≤ 192) ⌝ }
+    ensures { λ r. ⌜ SizesOf (now (pos .entry)) (gathered (now (sources .entry)) (now (neg .entry))) (now (added .entry)) rules (r .sizes) ⌝ }
 {
     let mut sizes = [0u8; 192];
     let mut j = 0;
     while j < rules {
-        sizes[j] = body_atoms(pos[j], neg[j], added[j]) as u8;
+        let set = negative_at(sources, neg, j);
+        sizes[j] = body_atoms(pos[j], set, added[j]) as u8;
         j += 1;
     }
     BodySizes { sizes }
@@ -281,13 +276,23 @@ pub struct Totals {
 }
 
 // The totals of the rules that the copies keep.
-fn kept_totals(t: ProgramTable, q: &[u8], names: &[u8; 64], sets: &[u64; 64]) -> Totals
-    requires { ⌜ Ready t (now names) (now sets) (now q) ⌝ }
-    ensures { λ r. ⌜ KeptTotals (unfoldedIn t (now (q .entry))) r ⌝ }
+fn kept_totals<'a>(
+    size: ProgramSize,
+    heads: &'a [u8; 192],
+    pos: &'a [u64; 192],
+    sources: &'a [u8; 192],
+    neg: &'a [u64; 128],
+    added: &'a [u8; 192],
+    q: &[u8],
+    names: &[u8; 64],
+    sets: &[u64; 64],
+) -> Totals
+    requires { ⌜ Sources (now sources)
+        × Ready (tableOf size (now heads) (now pos) (now sources) (now neg) (now added)) (now names) (now sets) (now q) ⌝ }
+    ensures { λ r. ⌜ KeptTotals
+        (unfoldedIn (tableOf size (now (heads .entry)) (now (pos .entry)) (now (sources .entry)) (now (neg .entry)) (now (added .entry))) (now (q .entry))) r ⌝ }
 {
-    let count = t.rules;
-    let table = body_sizes(&t.pos, &t.neg, &t.added, count);
-    let sizes = table.sizes;
+    let table = body_sizes(pos, sources, neg, added, size.rules);
     let mut keeping: u64 = 0;
     let mut rules = 0;
     let mut atoms = 0;
@@ -295,7 +300,7 @@ fn kept_totals(t: ProgramTable, q: &[u8], names: &[u8; 64], sets: &[u64; 64]) ->
     while i < q.len() {
         let a = byte_at(q, i);
         let component = component_of(names, sets, a);
-        let kept = kept_numbers(&t.heads, &t.pos, &sizes, count, a, component, keeping);
+        let kept = kept_numbers(heads, pos, &table.sizes, size.rules, a, component, keeping);
         rules += kept.rules;
         atoms += kept.atoms;
         keeping = mark(keeping, a, kept.rules);
@@ -312,32 +317,46 @@ fn kept_totals(t: ProgramTable, q: &[u8], names: &[u8; 64], sets: &[u64; 64]) ->
 // How many atoms the bodies of the entries from .. to - 1 have.
 fn atoms_at<'a>(
     pos: &'a [u64; 192],
-    neg: &'a [u64; 192],
+    sources: &'a [u8; 192],
+    neg: &'a [u64; 128],
     added: &'a [u8; 192],
     from: usize,
     to: usize,
 ) -> usize
-    requires { ⌜ (from ≤ to) × (to ≤ 192) ⌝ }
-    ensures { λ r. ⌜ r ≡ atomsAt (now (pos .entry)) (now (neg .entry)) (now (added .entry)) from to ⌝ }
+    requires { ⌜ Sources (now sources) × (from ≤ to) × (to ≤ 192) ⌝ }
+    ensures { λ r. ⌜ r ≡ atomsAt (now (pos .entry)) (gathered (now (sources .entry)) (now (neg .entry))) (now (added .entry)) from to ⌝ }
 {
     let mut atoms = 0;
     let mut j = from;
     while j < to {
-        atoms += body_atoms(pos[j], neg[j], added[j]);
+        let set = negative_at(sources, neg, j);
+        atoms += body_atoms(pos[j], set, added[j]);
         j += 1;
     }
     atoms
 }
 
 // The totals of the unfolded program.
-pub fn totals_of(t: ProgramTable, q: &[u8], names: &[u8; 64], sets: &[u64; 64]) -> Totals
-    requires { ⌜ Ready t (now names) (now sets) (now q) ⌝ }
-    ensures { λ r. ⌜ TotalsOf (unfoldedIn t (now (q .entry))) r ⌝ }
+pub fn totals_of<'a>(
+    size: ProgramSize,
+    heads: &'a [u8; 192],
+    pos: &'a [u64; 192],
+    sources: &'a [u8; 192],
+    neg: &'a [u64; 128],
+    added: &'a [u8; 192],
+    q: &[u8],
+    names: &[u8; 64],
+    sets: &[u64; 64],
+) -> Totals
+    requires { ⌜ Sources (now sources)
+        × Ready (tableOf size (now heads) (now pos) (now sources) (now neg) (now added)) (now names) (now sets) (now q) ⌝ }
+    ensures { λ r. ⌜ TotalsOf
+        (unfoldedIn (tableOf size (now (heads .entry)) (now (pos .entry)) (now (sources .entry)) (now (neg .entry)) (now (added .entry))) (now (q .entry))) r ⌝ }
 {
-    let from = t.rules;
-    let constraints = t.constraints;
-    let literals = atoms_at(&t.pos, &t.neg, &t.added, from, from + constraints);
-    let kept = kept_totals(t, q, names, sets);
+    let from = size.rules;
+    let constraints = size.constraints;
+    let literals = atoms_at(pos, sources, neg, added, from, from + constraints);
+    let kept = kept_totals(size, heads, pos, sources, neg, added, q, names, sets);
     Totals {
         rules: kept.rules,
         atoms: kept.atoms,

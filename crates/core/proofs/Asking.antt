@@ -1,16 +1,19 @@
 -- Laws of asking the questions about a sheet and a sequence.
-use mathlib.Core.Bool.{Bool, true, false}
+use mathlib.Core.Bool.{Bool, true, false, _&&_}
 use mathlib.Core.List.{List}
 use mathlib.Core.Path.{_≡_, refl, sym, _∙_, ap, ap₂}
-use Prim.Native.Nat.{ℕ, _+_, _^_, _≤_, _<_}
+use Prim.Native.Nat.{ℕ, _+_, _-_, _^_, _≤_, _<_}
+use lib.Pow.{pow-mono}
 use native.Mathlib.Omega.{arith}
 use borrow.Author.Tests.{ltb-true, leb-true, le-leb, lt-leb}
 use lib.Dec.{eqb, ltb, leb}
-use lib.ListN.{length, getD}
+use lib.ListN.{length, getD, length-drop}
 use Rattle.lists.specs.Lists.{below, range}
 use Rattle.lists.proofs.Bools.{by-bool}
 use Rattle.lists.proofs.Members.{all-at, range-in}
+use Rattle.unfolding.specs.Chain.{passes}
 use Rattle.unfolding.specs.Default.{members}
+use Rattle.asp.specs.Program.{Program}
 use Rattle.bits.specs.inner.Visited.{listed}
 use Rattle.sheet.specs.Questions.{ask, _then_}
 use Rattle.sheet.specs.Format.{atomsByte}
@@ -25,29 +28,29 @@ use Rattle.reader.specs.declared.Header.{Header}
 use Rattle.reader.specs.inner.Tabled.{HeaderRead, RecordsRead}
 use Rattle.translation.specs.inner.Records.{Records, table, recordsIn, ChoicesIn, Expandable}
 use Rattle.translation.specs.inner.Linked.{EdgesIn}
-use Rattle.components.specs.declared.Components.{Components}
 use Rattle.components.specs.Limit.{componentsFit}
-use Rattle.components.specs.inner.Reachability.{SetsOf, named, namesFit, SetsFit, ComponentsOf, GraphOf}
+use Rattle.components.specs.inner.Reachability.{EdgesOf, SetsOf, named, namesFit, Largest, ComponentsOf, GraphOf}
 use Rattle.components.proofs.Naming.{sets-named}
 use Rattle.components.proofs.Graphs.{fits-same, named-members}
 use Rattle.chains.specs.inner.Subsets.{Graph, Small, PassesBy}
 use Rattle.choice.proofs.Sheets.{program-formed}
-use Rattle.core.specs.Questions.{question13, question7, question9, readQuestions, testQuestions}
-use Rattle.core.specs.inner.Asked.{Supported, SheetAccepted, SheetAsked, RecordsAsked, SequenceAsked, BothKept}
+use Rattle.core.specs.Questions.{question13, question7, question15, question16, question9, readQuestions, testQuestions}
+use Rattle.core.specs.inner.Asked.{Supported, sizesAsked, SheetAccepted, SheetAsked, RecordsAsked, formAsked, SequenceAsked, BothKept}
 use Rattle.core.specs.declared.Asked.{Asked}
-use Rattle.core.proofs.Chains.{read-asked, read-passed, test-asked}
+use Rattle.core.proofs.Chains.{then-assoc, read-asked, read-passed, test-asked}
 
 -- The sheet.
 module _ (L : Limits) (s : List ℕ) (S : Supported L) (h : Header) (H : HeaderRead L s h) (ks hs ps ns : List ℕ) where
-  refused-here : (r : Asked) (q : ℕ) → q ≡ readQuestions L s → (q ≡ 0 → ⊥) → r .refusal ≡ q → RecordsAsked L s ks hs ps ns r
-  refused-here r q f ne e =
-      record { asked = record { says = e ∙ f; accepted = λ z. absurd (ne (sym e ∙ z)) }; kept = λ z. absurd (ne (sym e ∙ z)) }
+  refused-here : (es cs ss : List ℕ) (r : Asked) (q : ℕ) → q ≡ readQuestions L s → (q ≡ 0 → ⊥) → r .refusal ≡ q → RecordsAsked L s ks hs ps ns es cs ss r
+  refused-here es cs ss r q f ne e =
+      let no : r .refusal ≡ 0 → ⊥ = λ z. ne (sym e ∙ z) in
+      record { asked = record { says = e ∙ f; accepted = λ z. absurd (no z); edged = λ z. absurd (no z) }; kept = λ z. absurd (no z) }
 
-  refused-by : (r : Asked) (q : ℕ) → q ≡ formQuestions L s → (q ≡ 0 → ⊥) → r .refusal ≡ q → RecordsAsked L s ks hs ps ns r
-  refused-by r q f ne e = refused-here r q (f ∙ sym (read-asked L s ∙ then-refused (formQuestions L s) _ (λ z. ne (f ∙ z)))) ne e
+  refused-by : (es cs ss : List ℕ) (r : Asked) (q : ℕ) → q ≡ formQuestions L s → (q ≡ 0 → ⊥) → r .refusal ≡ q → RecordsAsked L s ks hs ps ns es cs ss r
+  refused-by es cs ss r q f ne e = refused-here es cs ss r q (f ∙ sym (read-asked L s ∙ then-refused (formQuestions L s) _ (λ z. ne (f ∙ z)))) ne e
 
-  pub asked-header : (r : Asked) → (h .refusal ≡ 0 → ⊥) → r .refusal ≡ h .refusal → RecordsAsked L s ks hs ps ns r
-  asked-header r ne e = refused-by r (h .refusal) (H .refused ne) ne e
+  pub asked-header : (es cs ss : List ℕ) (r : Asked) → (h .refusal ≡ 0 → ⊥) → r .refusal ≡ h .refusal → RecordsAsked L s ks hs ps ns es cs ss r
+  asked-header es cs ss r ne e = refused-by es cs ss r (h .refusal) (H .refused ne) ne e
 
   module _ (z : h .refusal ≡ 0) where
     pub asked-long : 5 ≤ length s
@@ -63,8 +66,8 @@ module _ (L : Limits) (s : List ℕ) (S : Supported L) (h : Header) (H : HeaderR
       read-by : q ≡ formQuestions L s
       read-by = Q .says ∙ sym (H .passed z .rest)
 
-      pub asked-records : (r : Asked) → (q ≡ 0 → ⊥) → r .refusal ≡ q → RecordsAsked L s ks hs ps ns r
-      asked-records r ne e = refused-by r q read-by ne e
+      pub asked-records : (es cs ss : List ℕ) (r : Asked) → (q ≡ 0 → ⊥) → r .refusal ≡ q → RecordsAsked L s ks hs ps ns es cs ss r
+      asked-records es cs ss r ne e = refused-by es cs ss r q read-by ne e
 
       module _ (y : q ≡ 0) where
         abbrev t : Records
@@ -95,13 +98,13 @@ module _ (L : Limits) (s : List ℕ) (S : Supported L) (h : Header) (H : HeaderR
           unfolding program programOf
           all-atoms = numbered
 
-          thirteenth : readQuestions L s ≡ question13 L s then question7 L s
+          thirteenth : readQuestions L s ≡ question13 L s then question7 L s then question15 L s
           thirteenth = read-asked L s ∙ then-zero (formQuestions L s) _ passed
 
-          pub asked-crowded : (r : Asked) → L .atoms < h .atoms + c → r .refusal ≡ 13 → RecordsAsked L s ks hs ps ns r
-          asked-crowded r l e =
+          pub asked-crowded : (es cs ss : List ℕ) (r : Asked) → L .atoms < h .atoms + c → r .refusal ≡ 13 → RecordsAsked L s ks hs ps ns es cs ss r
+          asked-crowded es cs ss r l e =
               let k = numbered in
-              refused-here r 13 (sym (thirteenth ∙ ask-no (lt-leb (atomsByte s + choices (records s)) (L .atoms) (omega arith)) 13 _ (λ e. omega arith))) (λ e. omega arith) e
+              refused-here es cs ss r 13 (sym (thirteenth ∙ ask-no (lt-leb (atomsByte s + choices (records s)) (L .atoms) (omega arith)) 13 _ (λ e. omega arith))) (λ e. omega arith) e
 
           module _ (fit : h .atoms + c ≤ L .atoms) where
             pub asked-low : h .atoms + c ≤ 64
@@ -110,31 +113,36 @@ module _ (L : Limits) (s : List ℕ) (S : Supported L) (h : Header) (H : HeaderR
             pub asked-expandable : Expandable (h .atoms) t
             asked-expandable = let l = asked-low in let k = C .is hs ps ns in record { few = asked-count; sound = sound; low = omega arith }
 
-            last-question : readQuestions L s ≡ question7 L s
-            last-question =
+            last-questions : readQuestions L s ≡ question7 L s then question15 L s
+            last-questions =
                 let k = numbered in
-                thirteenth ∙ ask-yes (le-leb (atomsByte s + choices (records s)) (L .atoms) (omega arith)) 13 (question7 L s)
+                thirteenth ∙ ask-yes (le-leb (atomsByte s + choices (records s)) (L .atoms) (omega arith)) 13 _
 
-            module _ (rows : List ℕ) (E : EdgesIn (h .atoms) t rows) (g : Components) (G : GraphOf (h .atoms + c) rows g) (b : Bool) (F : SetsFit (L .component) (h .atoms + c) (g .sets) b) where
-              graph : ComponentsOf (program s) g
-              graph = G .is (program s) (program-formed L s passed) (sym all-atoms) (rw same-program at E)
+            module _ (es cs ss : List ℕ) (E : EdgesIn (h .atoms) t es) (G : GraphOf (h .atoms + c) es cs ss) (k : ℕ) (K : Largest (h .atoms + c) ss k) where
+              edged : EdgesOf (program s) es
+              edged = rw same-program at E
 
-              seventh : readQuestions L s ≡ ask b 7
-              seventh =
-                  last-question
-                  ∙ ap (λ b. ask b 7) (sym (F .is (g .names) (rw all-atoms (graph .grouped))
-                  ∙ (ap (namesFit (L .component) (g .names)) all-atoms ∙ fits-same (program s) (g .names) (graph .named) (L .component))))
+              graph : ComponentsOf (program s) cs ss
+              graph = G .is (program s) (program-formed L s passed) (sym all-atoms) edged
 
-              pub asked-wide : (r : Asked) → b ≡ false → r .refusal ≡ 7 → RecordsAsked L s ks hs ps ns r
-              unfolding ask
-              asked-wide r f e = refused-here r 7 (sym (seventh ∙ rw f refl)) (λ e. omega arith) e
+              fits : (most : ℕ) → leb k most ≡ componentsFit most (program s)
+              fits most =
+                  K .is cs (rw all-atoms (graph .grouped)) most ∙ (ap (namesFit most cs) all-atoms ∙ fits-same (program s) cs (graph .named) most)
 
-              pub asked-fine : b ≡ true → RecordsAsked L s ks hs ps ns (record { refusal = 0; written = h .atoms; records = h .records; atoms = h .atoms + c; components = g })
-              unfolding ask
-              asked-fine u =
+              sizes : readQuestions L s ≡ sizesAsked L (h .atoms + c) k
+              unfolding sizesAsked
+              sizes = last-questions ∙ sym (rw (fits (L .component), fits (L .taken .component), all-atoms) refl)
+
+              pub asked-large : (r : Asked) (q : ℕ) → q ≡ sizesAsked L (h .atoms + c) k → (q ≡ 0 → ⊥) → r .refusal ≡ q → RecordsAsked L s ks hs ps ns es cs ss r
+              asked-large r q e ne = refused-here es cs ss r q (e ∙ sym sizes) ne
+
+              pub asked-fine : (q : ℕ) → q ≡ sizesAsked L (h .atoms + c) k → q ≡ 0
+                  → RecordsAsked L s ks hs ps ns es cs ss (record { refusal = 0; written = h .atoms; records = h .records; atoms = h .atoms + c })
+              asked-fine q e u =
+                  let accepted : readQuestions L s ≡ 0 = sizes ∙ (sym e ∙ u) in
                   record {
                     asked = record {
-                      says = sym (seventh ∙ rw u refl);
+                      says = sym accepted;
                       accepted = λ _. record {
                         form = passed;
                         number = H .passed z .records;
@@ -142,77 +150,134 @@ module _ (L : Limits) (s : List ℕ) (S : Supported L) (h : Header) (H : HeaderR
                         atoms = all-atoms;
                         low = asked-low;
                         graph = graph;
-                        limit = read-passed L s (seventh ∙ rw u refl) .components;
+                        limit = read-passed L s accepted .components;
+                        taken = read-passed L s accepted .taken-components;
                       };
+                      edged = λ _. edged;
                     };
                     kept = λ _. record { list = same-records; exact = Q .exact y; long = Q .long };
                   }
 
+-- The questions about components, each way.
+module _ (L : Limits) (n k : ℕ) where
+  pub sizes-large : L .component < k → 7 ≡ sizesAsked L n k
+  unfolding sizesAsked
+  sizes-large l = sym (ask-no (lt-leb k (L .component) l) 7 _ (λ e. omega arith))
+
+  module _ (l : k ≤ L .component) where
+    behind-seven : sizesAsked L n k ≡ ask (leb n (L .taken .atoms) && leb k (L .taken .component)) 15
+    unfolding sizesAsked
+    behind-seven = ask-yes (le-leb k (L .component) l) 7 _
+
+    pub sizes-many : L .taken .atoms < n → 15 ≡ sizesAsked L n k
+    unfolding ask
+    sizes-many m = sym (behind-seven ∙ rw (lt-leb n (L .taken .atoms) m) refl)
+
+    pub sizes-wide : n ≤ L .taken .atoms → L .taken .component < k → 15 ≡ sizesAsked L n k
+    unfolding ask
+    sizes-wide m w = sym (behind-seven ∙ rw (le-leb n (L .taken .atoms) m, lt-leb k (L .taken .component) w) refl)
+
+    pub sizes-fine : n ≤ L .taken .atoms → k ≤ L .taken .component → 0 ≡ sizesAsked L n k
+    unfolding ask
+    sizes-fine m w = sym (behind-seven ∙ rw (le-leb n (L .taken .atoms) m, le-leb k (L .taken .component) w) refl)
+
 -- A sheet that is accepted.
-module _ (L : Limits) (s : List ℕ) (r : Asked) (A : SheetAccepted L s r) where
-  pub grouped-here : SetsOf (r .components .names) (r .atoms) (r .components .sets)
+module _ (L : Limits) (s cs ss : List ℕ) (r : Asked) (A : SheetAccepted L s cs ss r) where
+  pub grouped-here : SetsOf cs (r .atoms) ss
   grouped-here = rw (A .atoms) (A .graph .grouped)
 
   -- The set of a component's name lists its members.
-  pub set-members : (c : ℕ) → c < r .atoms → listed (getD (r .components .sets) c 0) ≡ members (program s) c
+  pub set-members : (c : ℕ) → c < r .atoms → listed (getD ss c 0) ≡ members (program s) c
   set-members c l =
       let low = A .low in
-      sets-named (r .components .names) (r .atoms) (r .components .sets) grouped-here low c (omega arith)
-      ∙ (ap (named (r .components .names) c) (A .atoms) ∙ named-members (program s) (r .components .names) (A .graph .named) c)
+      sets-named cs (r .atoms) ss grouped-here low c (omega arith)
+      ∙ (ap (named cs c) (A .atoms) ∙ named-members (program s) cs (A .graph .named) c)
 
-  pub components-small : Supported L → Small (r .atoms) (r .components .sets)
+  -- How many there are at most, by a limit of components.
+  members-few : (most : ℕ) → componentsFit most (program s) ≡ true → (c : ℕ) → c < r .atoms → length (listed (getD ss c 0)) ≤ most
   unfolding componentsFit
-  components-small S =
+  members-few most fits c l =
+      let e = ap length (set-members c l) in
+      let a = A .atoms in
+      let m = leb-true (length (members (program s) c)) most
+      (all-at (λ c. leb (length (members (program s) c)) most) (range 0 (program s .atoms)) fits c (range-in 0 (program s .atoms) c (omega arith) (omega arith))) in
+      omega arith
+
+  pub components-small : Supported L → (rows : ℕ) → 2 ^ L .taken .component ≤ rows → Small (r .atoms) ss rows
+  components-small S rows T =
       record {
         few = λ c l.
             let k = S .component in
-            let e = ap length (set-members c l) in
-            let a = A .atoms in
-            let m = leb-true (length (members (program s) c)) (L .component)
-            (all-at (λ c. leb (length (members (program s) c)) (L .component)) (range 0 (program s .atoms)) (A .limit) c (range-in 0 (program s .atoms) c (omega arith) (omega arith))) in
-            omega arith;
+            let m = members-few (L .component) (A .limit) c l in
+            let w = pow-mono {i = length (listed (getD ss c 0))} {j = L .taken .component} (members-few (L .taken .component) (A .taken) c l) in
+            record { few = omega arith; room = omega arith };
       }
 
-  pub graph-here : Graph (program s) (r .atoms) (r .components .edges) (r .components .sets)
-  graph-here =
+  pub graph-here : (es : List ℕ) → EdgesOf (program s) es → Graph (program s) (r .atoms) es ss
+  graph-here es E =
       let low = A .low in
       let a = A .atoms in
       record {
         size = sym a;
-        edged = record { formed = program-formed L s (A .form); low = omega arith; edges = A .graph .edges .bits };
+        edged = record { formed = program-formed L s (A .form); low = omega arith; edges = E .bits };
         grouped = λ c h. record {
           members = λ b. A .graph .grouped .members c h b
               ∙ by-bool (ltb b (program s .atoms)) (λ t. rw t (ap (λ x. eqb x c) (A .graph .named .name b (ltb-true b (program s .atoms) t)))) (λ f. rw f refl);
         };
       }
 
--- The sequence.
-module _ (L : Limits) (n : ℕ) (edges sets q : List ℕ) (b : Bool) (B : b ≡ sequenceFits L n q) where
-  pub sequence-malformed : b ≡ false → SequenceAsked L n edges sets q 8
-  sequence-malformed f = record { says = λ P G. sym (ask-no (sym B ∙ f) 8 _ (λ e. omega arith)) }
+-- The form of a sequence.
+module _ (L : Limits) (n : ℕ) (q : List ℕ) (b : Bool) (B : b ≡ sequenceFits L n q) where
+  pub form-malformed : b ≡ false → 8 ≡ formAsked L n q
+  unfolding formAsked
+  form-malformed f = sym (ask-no (sym B ∙ f) 8 _ (λ e. omega arith))
 
   module _ (t : b ≡ true) where
+    pub form-three : 3 ≤ length q
+    form-three = fits-out L n q (sym B ∙ t) .three
+
+    pub form-long : L .taken .entries < length q - 3 → 16 ≡ formAsked L n q
+    unfolding formAsked ask
+    form-long l = sym (ask-yes (sym B ∙ t) 8 _ ∙ rw (lt-leb (length (entries q)) (L .taken .entries) (let e = length-drop 3 q in omega arith)) refl)
+
+    pub form-fine : length q - 3 ≤ L .taken .entries → 0 ≡ formAsked L n q
+    unfolding formAsked ask
+    form-fine l = sym (ask-yes (sym B ∙ t) 8 _ ∙ rw (le-leb (length (entries q)) (L .taken .entries) (let e = length-drop 3 q in omega arith)) refl)
+
+-- The sequence.
+module _ (L : Limits) (n : ℕ) (es ss q : List ℕ) (f : ℕ) (F : f ≡ formAsked L n q) where
+  pub sequence-malformed : (f ≡ 0 → ⊥) → SequenceAsked L n es ss q f
+  sequence-malformed ne = record { says = λ P G. F ∙ sym (then-refused (formAsked L n q) _ (λ z. ne (F ∙ z))) }
+
+  module _ (z : f ≡ 0) where
+    fitting : sequenceFits L n q ≡ true
+    unfolding formAsked
+    fitting = asked-yes (sequenceFits L n q) 8 (question16 L q) (λ e. omega arith) (sym F ∙ z) .0
+
     pub sequence-long : 3 ≤ length q
-    sequence-long = fits-out L n q (sym B ∙ t) .three
+    sequence-long = fits-out L n q fitting .three
 
     pub sequence-low : below n (entries q) ≡ true
-    sequence-low = fits-out L n q (sym B ∙ t) .low
+    sequence-low = fits-out L n q fitting .low
 
-    module _ (c : Bool) (C : PassesBy n edges sets (entries q) c) where
-      pub sequence-lacks : c ≡ false → SequenceAsked L n edges sets q 9
-      unfolding ask
-      sequence-lacks f = record { says = λ P G. sym (ask-yes (sym B ∙ t) 8 _ ∙ rw (sym (C .is P G) ∙ f) refl) }
+    module _ (c : Bool) (C : PassesBy n es ss (entries q) c) where
+      answers : (P : Program) → Graph P n es ss → ask c 9 ≡ formAsked L n q then ask (passes P (entries q)) 9
+      answers P G = sym (then-zero (formAsked L n q) _ (sym F ∙ z) ∙ ap (λ b. ask b 9) (sym (C .is P G)))
 
-      pub sequence-passes : c ≡ true → SequenceAsked L n edges sets q 0
+      pub sequence-lacks : c ≡ false → SequenceAsked L n es ss q 9
       unfolding ask
-      sequence-passes u = record { says = λ P G. sym (ask-yes (sym B ∙ t) 8 _ ∙ rw (sym (C .is P G) ∙ u) refl) }
+      sequence-lacks u = record { says = λ P G. rw u at (answers P G) }
+
+      pub sequence-passes : c ≡ true → SequenceAsked L n es ss q 0
+      unfolding ask
+      sequence-passes u = record { says = λ P G. rw u at (answers P G) }
 
 -- Both.
-module _ (L : Limits) (s q : List ℕ) (ks hs ps ns : List ℕ) (a : Asked) (K : RecordsAsked L s ks hs ps ns a) where
-  A : SheetAsked L s a
+module _ (L : Limits) (s q : List ℕ) (ks hs ps ns es cs ss : List ℕ) (a : Asked) (K : RecordsAsked L s ks hs ps ns es cs ss a) where
+  A : SheetAsked L s es cs ss a
   A = K .asked
 
-  pub both-sheet : (a .refusal ≡ 0 → ⊥) → BothKept L s q ks hs ps ns a
+  pub both-sheet : (a .refusal ≡ 0 → ⊥) → BothKept L s q ks hs ps ns cs ss a
   both-sheet ne =
       record {
         asked = record { says = A .says ∙ sym (test-asked L s q ∙ then-refused (readQuestions L s) _ (λ z. ne (A .says ∙ z))); accepted = λ z. absurd (ne z) };
@@ -223,27 +288,30 @@ module _ (L : Limits) (s q : List ℕ) (ks hs ps ns : List ℕ) (a : Asked) (K :
     pub both-low : a .atoms ≤ 64
     both-low = A .accepted z .low
 
-    pub both-small : Supported L → Small (a .atoms) (a .components .sets)
-    both-small = components-small L s a (A .accepted z)
+    pub both-small : Supported L → (rows : ℕ) → 2 ^ L .taken .component ≤ rows → Small (a .atoms) ss rows
+    both-small = components-small L s cs ss a (A .accepted z)
 
-    module _ (r : ℕ) (Q : SequenceAsked L (a .atoms) (a .components .edges) (a .components .sets) q r) where
+    module _ (r : ℕ) (Q : SequenceAsked L (a .atoms) es ss q r) where
       behind : testQuestions L s q ≡ r
+      unfolding formAsked
       behind =
           test-asked L s q
           ∙ (then-zero (readQuestions L s) _ (sym (A .says) ∙ z)
-          ∙ sym (Q .says (program s) (graph-here L s a (A .accepted z)) ∙ ap (λ n. ask (sequenceFits L n q) 8 then question9 s q) (A .accepted z .atoms)))
+          ∙ sym (Q .says (program s) (graph-here L s cs ss a (A .accepted z) es (A .edged z))
+          ∙ (then-assoc (ask (sequenceFits L (a .atoms) q) 8) (question16 L q) (question9 s q)
+          ∙ ap (λ n. ask (sequenceFits L n q) 8 then question16 L q then question9 s q) (A .accepted z .atoms))))
 
-      pub both-sequence : (x : Asked) → (r ≡ 0 → ⊥) → x .refusal ≡ r → BothKept L s q ks hs ps ns x
+      pub both-sequence : (x : Asked) → (r ≡ 0 → ⊥) → x .refusal ≡ r → BothKept L s q ks hs ps ns cs ss x
       both-sequence x ne e = record { asked = record { says = e ∙ sym behind; accepted = λ y. absurd (ne (sym e ∙ y)) }; kept = λ y. absurd (ne (sym e ∙ y)) }
 
-      pub both-passed : r ≡ 0 → BothKept L s q ks hs ps ns a
+      pub both-passed : r ≡ 0 → BothKept L s q ks hs ps ns cs ss a
       both-passed y =
           record {
             asked = record {
               says = z ∙ sym (behind ∙ y);
               accepted = λ _. record {
                 sheet = A .accepted z;
-                formed = asked-yes (sequenceFits L (program s .atoms) q) 8 (question9 s q) (λ e. omega arith) (sym (then-zero (readQuestions L s) _ (sym (A .says) ∙ z)) ∙ (sym (test-asked L s q) ∙ (behind ∙ y))) .0;
+                formed = asked-yes (sequenceFits L (program s .atoms) q) 8 _ (λ e. omega arith) (sym (then-zero (readQuestions L s) _ (sym (A .says) ∙ z)) ∙ (sym (test-asked L s q) ∙ (behind ∙ y))) .0;
               };
             };
             kept = K .kept;

@@ -15,12 +15,12 @@ use Rattle.sheet.specs.declared.Limits.{Limits}
 use Rattle.sheet.proofs.Records.{then-zero, then-refused}
 use Rattle.core.specs.Outcome.{Outcome, refused, answered, outcome, filled}
 use Rattle.core.specs.Outputs.{componentsOutput, defaultOutput, lparseOutput, missingOutput, unfoldedOutput, clausesOutput}
-use Rattle.core.specs.Questions.{question1, question2, question3, question13, question7, question8, question9, readQuestions, testQuestions}
+use Rattle.core.specs.Questions.{question1, question2, question3, question13, question7, question15, question8, question16, question9, readQuestions, testQuestions}
 use Rattle.core.specs.Questions.{bodyQuestions, componentsQuestions, defaultQuestions, lparseQuestions, missingQuestions, unfoldedQuestions, clausesQuestions, countQuestions}
 use Rattle.core.specs.Promises.{readOutcome, ReadPromise, bodyOutcome, BodyPromise, componentsOutcome, ComponentsPromise, defaultOutcome, DefaultPromise, lparseOutcome, LparsePromise}
 use Rattle.core.specs.Promises.{testOutcome, TestPromise, missingOutcome, MissingPromise, unfoldedOutcome, UnfoldedPromise, clausesOutcome, ClausesPromise, countOutcome, CountPromise}
 use Rattle.core.specs.Calls.{Call, Buffer, nothing, unsigned, signed, over, lent, values, written, Promised}
-use Rattle.core.specs.Calls.{recordsAsked, sheetAsked, questions, AllYes, FirstNo}
+use Rattle.core.specs.Calls.{recordsAsked, sheetAsked, sequenceAsked, questions, AllYes, FirstNo}
 use Rattle.core.specs.Calls as call
 use Rattle.core.specs.Demands.{Decided, refuses, answers, Demand1}
 use Rattle.core.proofs.Chains.{then-assoc, test-asked}
@@ -90,8 +90,8 @@ unfolding first sheetAsked readQuestions
 sheet-first L s =
     let rs = recordsAsked (recordsByte s) (atomsByte s) s 5 in
     ap (λ r. question1 s then (question2 s then (question3 L s then r)))
-    (first-append rs (question13 L s ∷ question7 L s ∷ [])
-    ∙ ap₂ (λ r q. r then (question13 L s then q)) (records-first (recordsByte s) (atomsByte s) s 5) (then-none (question7 L s)))
+    (first-append rs (question13 L s ∷ question7 L s ∷ question15 L s ∷ [])
+    ∙ ap₂ (λ r q. r then (question13 L s then (question7 L s then q))) (records-first (recordsByte s) (atomsByte s) s 5) (then-none (question15 L s)))
 
 -- One question behind those about the sheet.
 one-first : (L : Limits) (s : List ℕ) (k : ℕ) → first (sheetAsked L s ++ (k ∷ [])) ≡ readQuestions L s then k
@@ -101,21 +101,21 @@ one-first L s k = first-append (sheetAsked L s) (k ∷ []) ∙ ap₂ _then_ (she
 pub test-first : (L : Limits) (s q : List ℕ) → first (questions L (call.test s q)) ≡ testQuestions L s q
 unfolding first questions
 test-first L s q =
-    first-append (sheetAsked L s) (question8 L s q ∷ question9 s q ∷ [])
-    ∙ (ap₂ (λ a b. a then (question8 L s q then b)) (sheet-first L s) (then-none (question9 s q)) ∙ sym (test-asked L s q))
+    first-append (sheetAsked L s) (question8 L s q ∷ question16 L q ∷ question9 s q ∷ [])
+    ∙ (ap₂ (λ a b. a then (question8 L s q then (question16 L q then b))) (sheet-first L s) (then-none (question9 s q)) ∙ sym (test-asked L s q))
 
--- Question 8 and two more behind those about the sheet.
-three-first : (L : Limits) (s q : List ℕ) (j k : ℕ)
-    → first (sheetAsked L s ++ (question8 L s q ∷ j ∷ k ∷ [])) ≡ readQuestions L s then question8 L s q then j then k
+-- Questions 8 and 16 and two more behind those about the sheet.
+two-first : (L : Limits) (s q : List ℕ) (j k : ℕ)
+    → first (sequenceAsked L s q (j ∷ k ∷ [])) ≡ readQuestions L s then question8 L s q then question16 L q then j then k
 unfolding first
-three-first L s q j k =
-    first-append (sheetAsked L s) (question8 L s q ∷ j ∷ k ∷ []) ∙ ap₂ (λ a b. a then question8 L s q then j then b) (sheet-first L s) (then-none k)
+two-first L s q j k =
+    first-append (sheetAsked L s) (question8 L s q ∷ question16 L q ∷ j ∷ k ∷ [])
+    ∙ ap₂ (λ a b. a then question8 L s q then question16 L q then j then b) (sheet-first L s) (then-none k)
 
-room-first : (L : Limits) (s q : List ℕ) (k : ℕ) → first (sheetAsked L s ++ (question8 L s q ∷ question9 s q ∷ k ∷ [])) ≡ testQuestions L s q then k
+room-first : (L : Limits) (s q : List ℕ) (k : ℕ) → first (sequenceAsked L s q (question9 s q ∷ k ∷ [])) ≡ testQuestions L s q then k
 room-first L s q k =
-    three-first L s q (question9 s q) k
-    ∙ sym (ap (λ t. t then k) (test-asked L s q) ∙ (then-assoc (readQuestions L s) (question8 L s q then question9 s q) k
-    ∙ ap (λ r. readQuestions L s then r) (then-assoc (question8 L s q) (question9 s q) k)))
+    two-first L s q (question9 s q) k
+    ∙ sym (ap (λ t. t then k) (test-asked L s q) ∙ simp then-assoc)
 
 -- A call follows its questions: its outcome is that of the first no, and it leaves the buffer so.
 unfoldable pub left : Outcome → Call → Buffer
@@ -204,7 +204,7 @@ module _ (L : Limits) (s : List ℕ) (o : Outcome) (b : Buffer) where
         → Follows L (call.missing s q old) o b
     unfolding questions values lent written missingOutcome
     missing-follows q e f =
-        follows-filled L (call.missing s q old) o b (missingQuestions L (length old) s q) (three-first L s q _ _)
+        follows-filled L (call.missing s q old) o b (missingQuestions L (length old) s q) (two-first L s q _ _)
         unsigned (missingOutput s q) old new refl refl e f n
 
     pub unfolded-follows : (q : List ℕ) → o ≡ unfoldedOutcome L (length old) s q → new ≡ filled (unfoldedOutcome L (length old) s q) (unfoldedOutput s q) old

@@ -128,7 +128,7 @@ pub missing-fits : MissingFits
 unfolding missingOutput componentsFit
 missing-fits L s q z = short (missingChain (program s) (entries q)) refl
   where
-    short : (w : List ℕ) → w ≡ missingChain (program s) (entries q) → length w ≤ L .component
+    short : (w : List ℕ) → w ≡ missingChain (program s) (entries q) → length w ≤ L .taken .component
     short [] e = omega arith
     short (a ∷ w) e =
         let P = program s in
@@ -136,5 +136,5 @@ missing-fits L s q z = short (missingChain (program s) (entries q)) refl
         let no = missing-is-there P wf (entries q) .0 (λ n. cons≢nil (e ∙ n)) in
         let C = subst (Chain P) (sym e) (missing-is-shortest P wf (entries q) no .chain) in
         let few = chain-few P wf a w C in
-        let fits = all-at (λ c. leb (length (members P c)) (L .component)) (range 0 (P .atoms)) (read-passed L s z .components) (component P a) (chain-named P wf a w C) in
-        omega (arith, leb-true (length (members P (component P a))) (L .component) fits)
+        let fits = all-at (λ c. leb (length (members P c)) (L .taken .component)) (range 0 (P .atoms)) (read-passed L s z .taken-components) (component P a) (chain-named P wf a w C) in
+        omega (arith, leb-true (length (members P (component P a))) (L .taken .component) fits)

@@ -45,7 +45,7 @@ verdict-split zero a b = absurd (a refl)
 verdict-split (suc zero) a b = absurd (b refl)
 verdict-split (suc (suc k)) a b = refl
 
-module _ (L : Limits) (s : List ℕ) (S : Supported L) (E : Entries) (r : Asked) (A : RecordsAsked L s (E .kinds) (E .heads) (E .pos) (E .neg) r) where
+module _ (L : Limits) (s : List ℕ) (S : Supported L) (E : Entries) (es cs ss : List ℕ) (r : Asked) (A : RecordsAsked L s (E .kinds) (E .heads) (E .pos) (E .neg) es cs ss r) where
   pub count-refused : (r .refusal ≡ 0 → ⊥) → CountPromise L s (counted.Refused (r .refusal))
   unfolding CountPromise countOutcome
   count-refused ne =
@@ -53,7 +53,7 @@ module _ (L : Limits) (s : List ℕ) (S : Supported L) (E : Entries) (r : Asked)
       outcome-refused (countQuestions L s) (r .refusal) (countValues s) (says ∙ sym (then-refused (readQuestions L s) _ (λ z. ne (says ∙ z)))) ne
 
   module _ (z : r .refusal ≡ 0) where
-    K : SheetAccepted L s r
+    K : SheetAccepted L s cs ss r
     K = A .asked .accepted z
 
     same : recordsOf (r .records) E ≡ records s

@@ -23,7 +23,7 @@ use Rattle.sheet.proofs.Records.{ask-yes, then-zero}
 use Rattle.choice.proofs.Sheets.{program-formed}
 use Rattle.components.specs.Limit.{componentsFit}
 use Rattle.core.specs.Outputs.{sequenceBytes, defaultOutput}
-use Rattle.core.specs.Questions.{question9, readQuestions}
+use Rattle.core.specs.Questions.{question16, question9, readQuestions}
 use Rattle.core.specs.Calls.{sheetAsked, questions}
 use Rattle.core.specs.Calls as call
 use Rattle.core.specs.Demands.{DefaultAccepted}
@@ -34,18 +34,18 @@ module _ (L : Limits) (s : List ℕ) (accepted : readQuestions L s ≡ 0) where
   passed : Passed L s
   passed = read-passed L s accepted
 
-  -- The length of the default sequence of a sheet that questions 1 to 7 pass.
-  pub default-length : length (defaultSequence (program s)) ≤ L .component * program s .atoms
+  -- The length of the default sequence of a sheet with components of at most so many atoms.
+  pub default-length : (most : ℕ) → componentsFit most (program s) ≡ true → length (defaultSequence (program s)) ≤ most * program s .atoms
   unfolding componentsFit
-  default-length =
-      default-short (program s) (L .component) (λ c l. leb-true (length (members (program s) c)) (L .component)
-      (all-at (λ c. leb (length (members (program s) c)) (L .component)) (range 0 (program s .atoms)) (passed .components) c (range-in 0 (program s .atoms) c (omega arith) (omega arith))))
+  default-length most fits =
+      default-short (program s) most (λ c l. leb-true (length (members (program s) c)) most
+      (all-at (λ c. leb (length (members (program s) c)) most) (range 0 (program s .atoms)) fits c (range-in 0 (program s .atoms) c (omega arith) (omega arith))))
 
-  module _ (enough : L .component * L .atoms ≤ L .entries) (two-bytes : L .entries < 65536) where
-    few : length (defaultSequence (program s)) ≤ L .entries
+  module _ (enough : L .taken .component * L .taken .atoms ≤ L .taken .entries) (within : L .taken .entries ≤ L .entries) (two-bytes : L .entries < 65536) where
+    few : length (defaultSequence (program s)) ≤ L .taken .entries
     few =
-        let a = default-length in
-        let b = mul-le-mul-left (L .component) (passed .atoms) in
+        let a = default-length (L .taken .component) (passed .taken-components) in
+        let b = mul-le-mul-left (L .taken .component) (passed .taken-atoms) in
         omega arith
 
     eighth : sequenceFits L (program s .atoms) (defaultOutput s) ≡ true
@@ -60,16 +60,22 @@ module _ (L : Limits) (s : List ℕ) (accepted : readQuestions L s ≡ 0) where
         (eq-eqb (length q) (3 + entriesField q) (omega arith)))
         (default-below (program s))
 
+    sixteenth : question16 L (defaultOutput s) ≡ 0
+    unfolding ask defaultOutput sequenceBytes
+    sixteenth = rw (le-leb (length (defaultSequence (program s))) (L .taken .entries) few) refl
+
     ninth : passes (program s) (entries (defaultOutput s)) ≡ true
     unfolding defaultOutput sequenceBytes
     ninth = passes-iff (program s) (program-formed L s (passed .form)) (defaultSequence (program s)) .1 (default-passes (program s) (program-formed L s (passed .form)))
 
-pub default-accepted : (L : Limits) → L .component * L .atoms ≤ L .entries → L .entries < 65536 → DefaultAccepted L
+pub default-accepted : (L : Limits) → L .taken .component * L .taken .atoms ≤ L .taken .entries → L .taken .entries ≤ L .entries → L .entries < 65536 → DefaultAccepted L
 unfolding ask
-default-accepted L enough two-bytes s yeses =
+default-accepted L enough within two-bytes s yeses =
     let accepted = sym (sheet-first L s) ∙ yes-first (sheetAsked L s) yeses in
     first-yes (questions L (call.test s (defaultOutput s)))
     (test-first L s (defaultOutput s)
     ∙ (test-asked L s (defaultOutput s)
     ∙ (then-zero (readQuestions L s) _ accepted
-    ∙ (ask-yes (eighth L s accepted enough two-bytes) 8 (question9 s (defaultOutput s)) ∙ rw (ninth L s accepted enough two-bytes) refl))))
+    ∙ (ask-yes (eighth L s accepted enough within two-bytes) 8 _
+    ∙ (then-zero (question16 L (defaultOutput s)) (question9 s (defaultOutput s)) (sixteenth L s accepted enough within two-bytes)
+    ∙ rw (ninth L s accepted enough within two-bytes) refl)))))

@@ -23,7 +23,7 @@ use Rattle.unfolding.specs.Claims as claims
 use Rattle.unfolding.proofs.Chains.{passes-iff}
 use Rattle.unfolding.proofs.Claims.{missing-is-shortest, literals-are-numbered, words-are-clauses, words-are-unfolded, words-have-no-loop}
 use Rattle.sheet.specs.Questions.{ask, _then_}
-use Rattle.sheet.specs.Sequence.{entries, sequenceFits}
+use Rattle.sheet.specs.Sequence.{entries}
 use Rattle.sheet.specs.Format.{atomsByte}
 use Rattle.sheet.specs.inner.Walk.{AllSound}
 use Rattle.sheet.specs.Sheet.{records, program}
@@ -37,13 +37,13 @@ use Rattle.lparse_format.specs.Meaning.{SameModels}
 use Rattle.lparse_format.proofs.Claims.{lparse-is-read, export-is-faithful}
 use Rattle.core.specs.Outcome.{Outcome, refused, answered, code}
 use Rattle.core.specs.Outputs.{lparseOutput, missingOutput, unfoldedOutput, clausesOutput, clauseNumbers}
-use Rattle.core.specs.Questions.{question8, question9, question10, readQuestions}
-use Rattle.core.specs.Calls.{Call, Buffer, unsigned, signed, over, sheetAsked, questions, AllYes, values, written, Service, Promised}
+use Rattle.core.specs.Questions.{question8, question16, question9, question10, readQuestions}
+use Rattle.core.specs.Calls.{Call, Buffer, unsigned, signed, over, sheetAsked, sequenceAsked, questions, AllYes, values, written, Service, Promised}
 use Rattle.core.specs.Calls as call
 use Rattle.core.specs.Demands.{Decided, refuses, answers, Demand1, AnswerSetsCounted, UnfoldedWords, ClauseWords, Demand2}
 use Rattle.core.specs.Demands.{Accepted, AsFarAsChains, Numbered, NineIsChains, Demand3, SolverReads, TextForSolvers, MissingChains}
 use Rattle.core.proofs.Calls.{first, first-append, first-yes, yes-first, no-first, sheet-first, test-first, demand-1}
-use Rattle.core.proofs.Chains.{read-passed, ask-low, read-low, then-higher}
+use Rattle.core.proofs.Chains.{read-passed, ask-other, then-behind, read-other}
 use Rattle.core.proofs.Testing.{program-accepted, both-accepted, test-faithful}
 
 -- A call that is answered: every question is answered by a yes, these are its values, and the buffer holds the output.
@@ -66,7 +66,7 @@ decided-refused : (L : Limits) (c : Call) (o : Outcome) (b : Buffer) (k : ℕ) �
 decided-refused L c o b k (refuses j F e m) f ne = e ∙ ap refused (sym (no-first (questions L c) j F) ∙ f)
 decided-refused L c o b k (answers y e m) f ne = absurd (ne (sym f ∙ yes-first (questions L c) y))
 
-decided-number : (L : Limits) (c : Call) (b : Buffer) (k : ℕ) → Decided L c (refused k) b → first (questions L c) ≡ k
+pub decided-number : (L : Limits) (c : Call) (b : Buffer) (k : ℕ) → Decided L c (refused k) b → first (questions L c) ≡ k
 decided-number L c b k (refuses j F e m) = no-first (questions L c) j F ∙ cc (sym e)
 decided-number L c b k (answers y e m) = let z : _≡_ {A = ℕ} 0 1 = cc e in absurd (omega arith)
 
@@ -84,23 +84,28 @@ module _ (L : Limits) (s more : List ℕ) (y : AllYes (sheetAsked L s ++ more)) 
   sheet-sound : AllSound (atomsByte s) (records s)
   sheet-sound = records-sound L s (read-passed L s read-accepted .form)
 
--- Then question 8, and another, whatever is asked behind it.
-module _ (L : Limits) (s q rest : List ℕ) (k : ℕ) (y : AllYes (sheetAsked L s ++ (question8 L s q ∷ k ∷ rest))) where
-  eighth : (question8 L s q ≡ 0) × (k then first rest ≡ 0)
+-- Then questions 8 and 16, and another, whatever is asked behind it.
+module _ (L : Limits) (s q rest : List ℕ) (k : ℕ) (y : AllYes (sequenceAsked L s q (k ∷ rest))) where
+  eighth : (question8 L s q ≡ 0) × (question16 L q then (k then first rest) ≡ 0)
   unfolding first
-  eighth = then-passed (question8 L s q) (k then first rest) (parted L s _ y .1)
+  eighth = then-passed (question8 L s q) _ (parted L s _ y .1)
+
+  sixteenth : (question16 L q ≡ 0) × (k then first rest ≡ 0)
+  sixteenth = then-passed (question16 L q) _ (eighth .1)
 
   next-passed : k ≡ 0
-  next-passed = then-passed k (first rest) (eighth .1) .0
+  next-passed = then-passed k (first rest) (sixteenth .1) .0
 
 -- Where that is the chain question, testing accepts: a well-formed program and a sequence of its atoms that has every chain.
-module _ (L : Limits) (s q rest : List ℕ) (y : AllYes (sheetAsked L s ++ (question8 L s q ∷ question9 s q ∷ rest))) where
+module _ (L : Limits) (s q rest : List ℕ) (y : AllYes (sequenceAsked L s q (question9 s q ∷ rest))) where
   test-accepts : Accepted L s q
   unfolding first questions
   test-accepts =
       first-yes (questions L (call.test s q))
-      (first-append (sheetAsked L s) (question8 L s q ∷ question9 s q ∷ [])
-      ∙ (then-zero (first (sheetAsked L s)) _ (parted L s _ y .0) ∙ (then-zero (question8 L s q) _ (eighth L s q rest _ y .0) ∙ then-zero (question9 s q) 0 (next-passed L s q rest _ y))))
+      (first-append (sheetAsked L s) (question8 L s q ∷ question16 L q ∷ question9 s q ∷ [])
+      ∙ (then-zero (first (sheetAsked L s)) _ (parted L s _ y .0)
+      ∙ (then-zero (question8 L s q) _ (eighth L s q rest _ y .0)
+      ∙ (then-zero (question16 L q) _ (sixteenth L s q rest _ y .0) ∙ then-zero (question9 s q) 0 (next-passed L s q rest _ y)))))
 
   accepted-both : claims.Accepted (program s) (entries q)
   accepted-both = both-accepted L s q (sym (sheet-first L s) ∙ parted L s _ y .0) (eighth L s q rest _ y .0) (next-passed L s q rest _ y)
@@ -197,15 +202,16 @@ text-read L s old new l K =
 written-faithful : (L : Limits) (s q : List ℕ) → Accepted L s q → WrittenFaithful (atomsByte s) (program s) (entries q)
 written-faithful L s q y = test-faithful L s q (sym (test-first L s q) ∙ yes-first (questions L (call.test s q)) y)
 
--- A question behind question 8, in a call that comes so far and asks `rest` behind it.
-module _ (L : Limits) (s q rest : List ℕ) (c : Call) (yes-answer : Bool) (k : ℕ) (is : questions L c ≡ sheetAsked L s ++ (question8 L s q ∷ ask yes-answer k ∷ rest))
+-- A question behind question 16, in a call that comes so far and asks `rest` behind it.
+module _ (L : Limits) (s q rest : List ℕ) (c : Call) (yes-answer : Bool) (k : ℕ) (is : questions L c ≡ sequenceAsked L s q (ask yes-answer k ∷ rest))
     (far : AsFarAsChains L s q) where
   behind : first (questions L c) ≡ ask yes-answer k then first rest
   unfolding first
   behind =
       let y = parted L s _ far in
-      ap first is ∙ (first-append (sheetAsked L s) (question8 L s q ∷ ask yes-answer k ∷ rest) ∙ (then-zero (first (sheetAsked L s)) _ (y .0)
-      ∙ then-zero (question8 L s q) _ (then-passed (question8 L s q) 0 (y .1) .0)))
+      let e = then-passed (question8 L s q) _ (y .1) in
+      ap first is ∙ (first-append (sheetAsked L s) (question8 L s q ∷ question16 L q ∷ ask yes-answer k ∷ rest) ∙ (then-zero (first (sheetAsked L s)) _ (y .0)
+      ∙ (then-zero (question8 L s q) _ (e .0) ∙ then-zero (question16 L q) _ (then-passed (question16 L q) 0 (e .1) .0))))
 
   -- Its number is answered just when it gets a no, where `rest` does not answer it too.
   refused-just : (k ≡ 0 → ⊥) → (first rest ≡ k → ⊥) → (S : Service) → Demand1 L S → (o : Outcome) (b : Buffer) → S c o b → (o ≡ refused k) ↔ (yes-answer ≡ false)
@@ -214,7 +220,7 @@ module _ (L : Limits) (s q rest : List ℕ) (c : Call) (yes-answer : Bool) (k : 
     λ f. decided-refused L c o b k (D c o b A) (behind ∙ ask-no f k (first rest) some) some,
   )
 
-nine-is-chains : (L : Limits) (s q rest : List ℕ) (c : Call) → questions L c ≡ sheetAsked L s ++ (question8 L s q ∷ question9 s q ∷ rest) → (first rest ≡ 9 → ⊥)
+nine-is-chains : (L : Limits) (s q rest : List ℕ) (c : Call) → questions L c ≡ sequenceAsked L s q (question9 s q ∷ rest) → (first rest ≡ 9 → ⊥)
     → AsFarAsChains L s q → (S : Service) → Demand1 L S → NineIsChains S c s q
 nine-is-chains L s q rest c is other far S D o b A =
     let same = passes-iff (program s) (formed L s _ far) (entries q) in
@@ -240,20 +246,20 @@ missing-shown L s q old new l K =
 
 -- Where 14 is answered, and where testing passes, a call comes as far as the chain question.
 module _ (L : Limits) (s q : List ℕ) where
-  as-far : first (sheetAsked L s) ≡ 0 → question8 L s q ≡ 0 → AsFarAsChains L s q
+  as-far : first (sheetAsked L s) ≡ 0 → question8 L s q ≡ 0 → question16 L q ≡ 0 → AsFarAsChains L s q
   unfolding first
-  as-far z e =
-      first-yes (sheetAsked L s ++ (question8 L s q ∷ [])) (first-append (sheetAsked L s) (question8 L s q ∷ [])
-      ∙ (then-zero (first (sheetAsked L s)) _ z ∙ then-zero (question8 L s q) 0 e))
+  as-far z e f =
+      first-yes (sequenceAsked L s q []) (first-append (sheetAsked L s) (question8 L s q ∷ question16 L q ∷ [])
+      ∙ (then-zero (first (sheetAsked L s)) _ z ∙ (then-zero (question8 L s q) _ e ∙ then-zero (question16 L q) 0 f)))
 
   fourteen-far : (old : List ℕ) → first (questions L (call.missing s q old)) ≡ 14 → AsFarAsChains L s q
   unfolding first questions
   fourteen-far old e =
-      let low = read-low L s in
-      let same = sheet-first L s in
-      let sheet = then-higher (first (sheetAsked L s)) _ 14 (omega arith) (sym (first-append (sheetAsked L s) _) ∙ e) in
-      let sequence = then-higher (question8 L s q) _ 14 (omega (arith, ask-low (sequenceFits L (program s .atoms) q) 8 (omega arith))) (sheet .1) in
-      as-far (sheet .0) (sequence .0)
+      let other : first (sheetAsked L s) ≡ 14 → ⊥ = λ z. read-other L s 14 (omega arith) (λ y. omega arith) (λ y. omega arith) (sym (sheet-first L s) ∙ z) in
+      let sheet = then-behind (first (sheetAsked L s)) _ 14 other (sym (first-append (sheetAsked L s) _) ∙ e) in
+      let form = then-behind (question8 L s q) _ 14 (ask-other _ 8 14 (λ z. omega arith) (λ z. omega arith)) (sheet .1) in
+      let size = then-behind (question16 L q) _ 14 (ask-other _ 16 14 (λ z. omega arith) (λ z. omega arith)) (form .1) in
+      as-far (sheet .0) (form .0) (size .0)
 
 module _ (L : Limits) (S : Service) (D : Demand1 L S) where
   pub succeeded : (c : Call) (vs : List ℕ) (b : Buffer) → S c (answered vs) b → Succeeded L c vs b
@@ -302,7 +308,7 @@ module _ (L : Limits) (S : Service) (D : Demand1 L S) where
     passed-fourteen e =
         let y = succeeded (call.test s q) [] c (subst (λ t. S (call.test s q) t c) e T) .yeses in
         let found = ask-passed (passes (program s) (entries q)) 9 (λ e. omega arith) (next-passed L s q [] _ y) in
-        fourteen-just (as-far L s q (parted L s _ y .0) (eighth L s q [] _ y .0)) .1 (ap not found)
+        fourteen-just (as-far L s q (parted L s _ y .0) (eighth L s q [] _ y .0) (sixteenth L s q [] _ y .0)) .1 (ap not found)
 
   pub missing-chains-of : MissingChains S
   missing-chains-of =

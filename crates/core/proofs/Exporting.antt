@@ -19,13 +19,13 @@ use Rattle.core.specs.declared.Asked.{Asked}
 use Rattle.core.specs.declared.WriteAnswer.the-variants as write
 use Rattle.core.proofs.Writing.{room-refused, room-full, room-done}
 
-module _ (L : Limits) (s ks hs ps ns : List ℕ) (r : Asked) (A : RecordsAsked L s ks hs ps ns r) where
+module _ (L : Limits) (s ks hs ps ns es cs ss : List ℕ) (r : Asked) (A : RecordsAsked L s ks hs ps ns es cs ss r) where
   pub lparse-refused : (old : List ℕ) → (r .refusal ≡ 0 → ⊥) → LparsePromise L s old old (write.Refused (r .refusal))
   unfolding LparsePromise lparseOutcome
   lparse-refused old ne = room-refused (readQuestions L s) (lparseOutput s) [] old (r .refusal) (A .asked .says) ne
 
   module _ (z : r .refusal ≡ 0) where
-    K : SheetAccepted L s r
+    K : SheetAccepted L s cs ss r
     K = A .asked .accepted z
 
     accepted : readQuestions L s ≡ 0

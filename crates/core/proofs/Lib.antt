@@ -11,4 +11,5 @@ pub mod Writing
 pub mod Testing
 pub mod Unfolding
 pub mod Demands
+pub mod Services
 pub mod Claims

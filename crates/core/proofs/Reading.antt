@@ -27,7 +27,7 @@ use Rattle.core.specs.declared.BodyPlace.{BodyPlace}
 use Rattle.core.specs.declared.ReadAnswer.the-variants as read
 use Rattle.core.proofs.Outcomes.{outcome-refused, outcome-answered}
 
-module _ (L : Limits) (s : List ℕ) (r : Asked) (A : SheetAsked L s r) where
+module _ (L : Limits) (s es cs ss : List ℕ) (r : Asked) (A : SheetAsked L s es cs ss r) where
   pub read-refused : (r .refusal ≡ 0 → ⊥) → ReadPromise L s (read.Refused (r .refusal))
   unfolding ReadPromise readOutcome
   read-refused ne = outcome-refused (readQuestions L s) (r .refusal) (atomsByte s ∷ recordsByte s ∷ []) (A .says) ne
@@ -84,7 +84,7 @@ module _ (L : Limits) (i : ℕ) (s : List ℕ) where
   unfolding bodyPlace
   place-shown z = sym (rw (eq-eqb (bodyQuestions L i s) 0 z) refl)
 
-  module _ (r : Asked) (A : SheetAsked L s r) where
+  module _ (es cs ss : List ℕ) (r : Asked) (A : SheetAsked L s es cs ss r) where
     pub body-refused : (b : BodyPlace) → (r .refusal ≡ 0 → ⊥) → b ≡ nowhere (r .refusal) → FindPromise L i s b
     body-refused b ne e =
         let says = A .says in

@@ -9,7 +9,6 @@ use Rattle.unfolding.specs.Chain.{passes}
 use Rattle.unfolding.specs.Claims.{Accepted}
 use Rattle.unfolding.proofs.Chains.{passes-iff}
 use Rattle.unfolding.proofs.Claims.{clauses-are-faithful}
-use Rattle.sheet.specs.Questions.{_then_}
 use Rattle.sheet.specs.Sequence.{entries, sequenceFits}
 use Rattle.sheet.specs.Format.{atomsByte}
 use Rattle.sheet.specs.Sheet.{records, program}
@@ -19,7 +18,7 @@ use Rattle.sheet.proofs.Walk.{ask-passed, then-passed, records-sound}
 use Rattle.choice.specs.Written.{WrittenFaithful}
 use Rattle.choice.proofs.Unique.{faithful-over-written}
 use Rattle.choice.proofs.Sheets.{program-formed}
-use Rattle.core.specs.Questions.{question8, question9, readQuestions, testQuestions}
+use Rattle.core.specs.Questions.{question8, question16, question9, readQuestions, testQuestions}
 use Rattle.core.specs.Promises.{testOutcome, TestPromise}
 use Rattle.core.specs.inner.Asked.{BothAsked}
 use Rattle.core.specs.declared.Asked.{Asked}
@@ -27,7 +26,7 @@ use Rattle.core.specs.declared.TestAnswer.the-variants as test
 use Rattle.core.proofs.Chains.{read-passed, test-asked}
 use Rattle.core.proofs.Outcomes.{outcome-refused, outcome-answered}
 
-module _ (L : Limits) (s q : List ℕ) (r : Asked) (E : BothAsked L s q r) where
+module _ (L : Limits) (s q : List ℕ) (names sets : List ℕ) (r : Asked) (E : BothAsked L s q names sets r) where
   pub test-refused : (r .refusal ≡ 0 → ⊥) → TestPromise L s q (test.Refused (r .refusal))
   unfolding TestPromise testOutcome
   test-refused ne = outcome-refused (testQuestions L s q) (r .refusal) [] (E .says) ne
@@ -51,13 +50,13 @@ both-accepted L s q z e n =
 
 pub test-accepted : (L : Limits) (s q : List ℕ) → testQuestions L s q ≡ 0 → Accepted (program s) (entries q)
 test-accepted L s q z =
-    let a = then-passed (readQuestions L s) (question8 L s q then question9 s q) (sym (test-asked L s q) ∙ z) in
-    let b = then-passed (question8 L s q) (question9 s q) (a .1) in
-    both-accepted L s q (a .0) (b .0) (b .1)
+    let a = then-passed (readQuestions L s) _ (sym (test-asked L s q) ∙ z) in
+    let b = then-passed (question8 L s q) _ (a .1) in
+    both-accepted L s q (a .0) (b .0) (then-passed (question16 L q) (question9 s q) (b .1) .1)
 
 -- Its clauses are faithful over the written atoms.
 pub test-faithful : (L : Limits) (s q : List ℕ) → testQuestions L s q ≡ 0 → WrittenFaithful (atomsByte s) (program s) (entries q)
 unfolding program
 test-faithful L s q z =
-    let a = then-passed (readQuestions L s) (question8 L s q then question9 s q) (sym (test-asked L s q) ∙ z) in
+    let a = then-passed (readQuestions L s) _ (sym (test-asked L s q) ∙ z) in
     faithful-over-written (atomsByte s) (records s) (records-sound L s (read-passed L s (a .0) .form)) (entries q) (clauses-are-faithful (program s) (entries q) (test-accepted L s q z))

@@ -13,8 +13,7 @@ use Rattle.sheet.specs.Sheet.{choices, programOf, program}
 use Rattle.sheet.specs.declared.Limits.{Limits}
 use Rattle.sheet.proofs.Sequences.{fits-out}
 use Rattle.sheet.proofs.Walk.{formed, records-sound}
-use Rattle.program.specs.inner.Held.{programIn}
-use Rattle.program.specs.declared.ProgramTable.{ProgramTable}
+use Rattle.program.specs.inner.Held.{ProgramTable, programIn}
 use Rattle.program.proofs.Entries.{program-atoms}
 use Rattle.translation.specs.inner.Records.{table, recordsIn, Expandable}
 use Rattle.translation.specs.inner.Translated.{Translated}
@@ -33,8 +32,8 @@ use Rattle.core.specs.declared.WriteAnswer.the-variants as write
 use Rattle.core.specs.inner.Asked.{Supported, BothAsked, BothKept}
 use Rattle.core.proofs.Writing.{room-refused, room-full, room-done}
 
-module _ (L : Limits) (s q ks hs ps ns : List ℕ) (r : Asked) (B : BothKept L s q ks hs ps ns r) where
-  E : BothAsked L s q r
+module _ (L : Limits) (s q ks hs ps ns cs ss : List ℕ) (r : Asked) (B : BothKept L s q ks hs ps ns cs ss r) where
+  E : BothAsked L s q cs ss r
   E = B .asked
 
   pub unfolded-refused : (old : List ℕ) → (r .refusal ≡ 0 → ⊥) → UnfoldedPromise L s q old old (write.Refused (r .refusal))
@@ -66,7 +65,7 @@ module _ (L : Limits) (s q ks hs ps ns : List ℕ) (r : Asked) (B : BothKept L s
     unfolding program
     same = T .is ∙ ap₂ programOf (E .accepted z .sheet .written) (B .kept z .list)
 
-    pub asked-ready : Supported L → Ready t (r .components .names) (r .components .sets) q
+    pub asked-ready : Supported L → Ready t cs ss q
     asked-ready S =
         let K = E .accepted z .sheet in
         let Q = fits-out L (program s .atoms) q (E .accepted z .formed) in
@@ -97,8 +96,8 @@ module _ (L : Limits) (s q ks hs ps ns : List ℕ) (r : Asked) (B : BothKept L s
     unfolding UnfoldedPromise unfoldedOutcome
     unfolded-full old k e l = room-full (testQuestions L s q) (unfoldedOutput s q) [] old passed (let f = e ∙ ap length output in omega arith)
 
-    pub unfolded-room : (old : List ℕ) (k : ℕ) → k ≡ length (words (unfoldedIn t q)) → k ≤ length old → length (words (unfoldedIn t q)) ≤ length old
-    unfolded-room old k e l = omega arith
+    pub unfolded-room : (room k : ℕ) → k ≡ length (words (unfoldedIn t q)) → k ≤ room → length (words (unfoldedIn t q)) ≤ room
+    unfolded-room room k e l = omega arith
 
     pub unfolded-done : (old new : List ℕ) (k next : ℕ) → k ≡ length (words (unfoldedIn t q)) → k ≤ length old
         → Wrote old 0 (words (unfoldedIn t q)) new next → UnfoldedPromise L s q old new (write.Length next)
@@ -121,8 +120,8 @@ module _ (L : Limits) (s q ks hs ps ns : List ℕ) (r : Asked) (B : BothKept L s
       clauses-full old l =
           room-full (testQuestions L s q) (clausesOutput s q) (clauseNumbers s q) old passed (let f = N .words ∙ ap length derived in omega arith)
 
-      pub clauses-room : (old : List ℤ) → k .words ≤ length old → length (signedWords (clauses (unfoldedIn t q))) ≤ length old
-      clauses-room old l = let f = N .words in omega arith
+      pub clauses-room : (room : ℕ) → k .words ≤ room → length (signedWords (clauses (unfoldedIn t q))) ≤ room
+      clauses-room room l = let f = N .words in omega arith
 
       pub clauses-done : (old new : List ℤ) (next : ℕ) → k .words ≤ length old
           → Wrote old 0 (signedWords (clauses (unfoldedIn t q))) new next

@@ -55,7 +55,7 @@ module _ {A : Type 0} (questions : ℕ) (output : List A) (more : List ℕ) (old
       subst (λ k. Emits whole output old new (answered (k ∷ more))) far
       (emits-answered asked (length output ∷ more) output old new passed (wrote-whole old output new next W l))
 
-module _ (L : Limits) (s : List ℕ) (r : Asked) (A : SheetAsked L s r) where
+module _ (L : Limits) (s es cs ss : List ℕ) (r : Asked) (A : SheetAsked L s es cs ss r) where
   pub components-refused : (old : List ℕ) → (r .refusal ≡ 0 → ⊥) → ComponentsPromise L s old old (write.Refused (r .refusal))
   unfolding ComponentsPromise componentsOutcome
   components-refused old ne = room-refused (readQuestions L s) (componentsOutput s) [] old (r .refusal) (A .says) ne
@@ -64,20 +64,20 @@ module _ (L : Limits) (s : List ℕ) (r : Asked) (A : SheetAsked L s r) where
   unfolding DefaultPromise defaultOutcome
   default-refused old ne = room-refused (readQuestions L s) (defaultOutput s) [] old (r .refusal) (A .says) ne
 
-module _ (L : Limits) (s : List ℕ) (r : Asked) (A : SheetAsked L s r) (z : r .refusal ≡ 0) where
+module _ (L : Limits) (s es cs ss : List ℕ) (r : Asked) (A : SheetAsked L s es cs ss r) (z : r .refusal ≡ 0) where
   accepted : readQuestions L s ≡ 0
   accepted = sym (A .says) ∙ z
 
-  K : SheetAccepted L s r
+  K : SheetAccepted L s cs ss r
   K = A .accepted z
 
   -- The names and blocks of the table are those of the sheet's components.
-  bytes : nameBytes (r .components .names) (r .atoms) ≡ componentsOutput s
+  bytes : nameBytes cs (r .atoms) ≡ componentsOutput s
   unfolding componentsOutput nameBytes
   bytes =
       let a = K .atoms in
-      ap (λ n. map (λ a. getD (r .components .names) a 0) (range 0 n)) a
-      ∙ map-cong (λ a. getD (r .components .names) a 0) (component (program s)) (range 0 (program s .atoms)) (λ a m. let h = range-out 0 (program s .atoms) a m .high in K .graph .named .name a (omega arith))
+      ap (λ n. map (λ a. getD cs a 0) (range 0 n)) a
+      ∙ map-cong (λ a. getD cs a 0) (component (program s)) (range 0 (program s .atoms)) (λ a m. let h = range-out 0 (program s .atoms) a m .high in K .graph .named .name a (omega arith))
 
   size : length (componentsOutput s) ≡ r .atoms
   unfolding componentsOutput
@@ -86,31 +86,31 @@ module _ (L : Limits) (s : List ℕ) (r : Asked) (A : SheetAsked L s r) (z : r .
   pub names-low : r .atoms ≤ 64
   names-low = K .low
 
-  pub names-room : (old : List ℕ) → r .atoms ≤ length old → 0 + length (nameBytes (r .components .names) (r .atoms)) ≤ length old
+  pub names-room : (old : List ℕ) → r .atoms ≤ length old → 0 + length (nameBytes cs (r .atoms)) ≤ length old
   names-room old l = let e = ap length bytes in let f = size in omega arith
 
   pub components-full : (old : List ℕ) → length old < r .atoms → ComponentsPromise L s old old (write.Refused 10)
   unfolding ComponentsPromise componentsOutcome
   components-full old l = room-full (readQuestions L s) (componentsOutput s) [] old accepted (let f = size in omega arith)
 
-  pub components-done : (old new : List ℕ) (next : ℕ) → r .atoms ≤ length old → Wrote old 0 (nameBytes (r .components .names) (r .atoms)) new next
+  pub components-done : (old new : List ℕ) (next : ℕ) → r .atoms ≤ length old → Wrote old 0 (nameBytes cs (r .atoms)) new next
       → ComponentsPromise L s old new (write.Length next)
   unfolding ComponentsPromise componentsOutcome
   components-done old new next l W =
       room-done (readQuestions L s) (componentsOutput s) [] old new next accepted (let f = size in omega arith) (subst (λ b. Wrote old 0 b new next) bytes W)
 
-  blocks : blocksOf (r .components .sets) (r .atoms) ≡ defaultSequence (program s)
+  blocks : blocksOf ss (r .atoms) ≡ defaultSequence (program s)
   unfolding blocksOf blockOf defaultSequence block
   blocks =
       let a = K .atoms in
-      flatMap-cong (λ c. blockOf (getD (r .components .sets) c 0)) (block (program s)) (range 0 (r .atoms))
-      (λ c m. let h = range-out 0 (r .atoms) c m .high in rw (set-members L s r K c (omega arith)) refl)
+      flatMap-cong (λ c. blockOf (getD ss c 0)) (block (program s)) (range 0 (r .atoms))
+      (λ c m. let h = range-out 0 (r .atoms) c m .high in rw (set-members L s cs ss r K c (omega arith)) refl)
       ∙ ap (λ n. flatMap (block (program s)) (range 0 n)) a
 
   short : length (defaultSequence (program s)) ≤ L .component * r .atoms
-  short = subst (λ n. length (defaultSequence (program s)) ≤ L .component * n) (sym (K .atoms)) (default-length L s accepted)
+  short = subst (λ n. length (defaultSequence (program s)) ≤ L .component * n) (sym (K .atoms)) (default-length L s accepted (L .component) (K .limit))
 
-  module _ (S : Supported L) (t : ℕ) (e : t ≡ length (blocksOf (r .components .sets) (r .atoms))) where
+  module _ (S : Supported L) (t : ℕ) (e : t ≡ length (blocksOf ss (r .atoms))) where
     entries-few : t ≤ 640
     entries-few =
         let b = ap length blocks in
@@ -123,7 +123,7 @@ module _ (L : Limits) (s : List ℕ) (r : Asked) (A : SheetAsked L s r) (z : r .
     entries-fit = let k = entries-few in omega arith
 
     pub blocks-room : (old mid : List ℕ) (at : ℕ) → t + 3 ≤ length old → Wrote old 0 (sequenceHeader t) mid at
-        → at + length (blocksOf (r .components .sets) (r .atoms)) ≤ length mid
+        → at + length (blocksOf ss (r .atoms)) ≤ length mid
     blocks-room old mid at l H = let m = H .moved in let n = wrote-length _ _ _ _ _ H in omega arith
 
     default-size : length (defaultOutput s) ≡ t + 3
@@ -135,13 +135,13 @@ module _ (L : Limits) (s : List ℕ) (r : Asked) (A : SheetAsked L s r) (z : r .
     default-full old l = room-full (readQuestions L s) (defaultOutput s) [] old accepted (let f = default-size in omega arith)
 
     pub default-done : (old mid new : List ℕ) (at next : ℕ) → t + 3 ≤ length old
-        → Wrote old 0 (sequenceHeader t) mid at → Wrote mid at (blocksOf (r .components .sets) (r .atoms)) new next → DefaultPromise L s old new (write.Length next)
+        → Wrote old 0 (sequenceHeader t) mid at → Wrote mid at (blocksOf ss (r .atoms)) new next → DefaultPromise L s old new (write.Length next)
     unfolding defaultOutput sequenceBytes DefaultPromise defaultOutcome
     default-done old mid new at next l H B =
         room-done (readQuestions L s) (defaultOutput s) [] old new next accepted (let f = default-size in omega arith)
         (subst (λ b. Wrote old 0 b new next)
         (ap (λ b. sequenceHeader t ++ b) blocks ∙ ap (λ k. sequenceHeader k ++ defaultSequence (program s)) (e ∙ ap length blocks))
-        (wrote-append old mid new (sequenceHeader t) (blocksOf (r .components .sets) (r .atoms)) 0 at next H B))
+        (wrote-append old mid new (sequenceHeader t) (blocksOf ss (r .atoms)) 0 at next H B))
 
 -- A header, byte by byte.
 pub header-written : (old a b new : List ℕ) (t x y z : ℕ) → Wrote old 0 (1 ∷ []) a x → Wrote a x (t / 256 % 256 ∷ []) b y → Wrote b y (t % 256 ∷ []) new z

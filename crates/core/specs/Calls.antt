@@ -12,7 +12,7 @@ use Rattle.sheet.specs.Format.{atomsByte, recordsByte, complete, kindPasses, li
 use Rattle.sheet.specs.declared.Limits.{Limits}
 use Rattle.core.specs.Outcome.{Outcome, fromRead, fromBody, fromWrite, fromTest, fromClauses, fromCount}
 use Rattle.core.specs.Outputs.{componentsOutput, defaultOutput, lparseOutput, missingOutput, unfoldedOutput, clausesOutput, clauseNumbers, bodyPositives, countValues}
-use Rattle.core.specs.Questions.{question1, question2, question3, question13, question7, question8, question9, question10, question11, question14, questionB}
+use Rattle.core.specs.Questions.{question1, question2, question3, question13, question7, question15, question8, question16, question9, question10, question11, question14, questionB}
 use Rattle.core.specs.Promises.{ReadPromise, BodyPromise, ComponentsPromise, DefaultPromise, LparsePromise}
 use Rattle.core.specs.Promises.{TestPromise, MissingPromise, UnfoldedPromise, ClausesPromise, CountPromise}
 use Rattle.core.specs.declared.ReadAnswer.{ReadAnswer}
@@ -59,9 +59,14 @@ unfoldable pub recordsAsked : ℕ → ℕ → List ℕ → ℕ → List ℕ
 recordsAsked zero n s at = ask (eqb at (length s)) 4 ∷ []
 recordsAsked (suc k) n s at = ask (complete s at) 4 ∷ ask (kindPasses n s at) 5 ∷ ask (listsFit n s at) 6 ∷ recordsAsked k n s (end s at)
 
--- Questions 1 to 6, 13 and 7.
+-- Questions 1 to 6, 13, 7 and 15.
 unfoldable pub sheetAsked : Limits → List ℕ → List ℕ
-sheetAsked L s = question1 s ∷ question2 s ∷ question3 L s ∷ (recordsAsked (recordsByte s) (atomsByte s) s 5 ++ (question13 L s ∷ question7 L s ∷ []))
+sheetAsked L s =
+    question1 s ∷ question2 s ∷ question3 L s ∷ (recordsAsked (recordsByte s) (atomsByte s) s 5 ++ (question13 L s ∷ question7 L s ∷ question15 L s ∷ []))
+
+-- Behind them questions 8 and 16, and what is asked of the sequence then.
+abbrev pub sequenceAsked : Limits → List ℕ → List ℕ → List ℕ → List ℕ
+sequenceAsked L s q more = sheetAsked L s ++ (question8 L s q ∷ question16 L q ∷ more)
 
 -- The questions that a call asks, in their order: 0 for a yes, its number for a no.
 unfoldable pub questions : Limits → Call → List ℕ
@@ -70,10 +75,10 @@ questions L (body i s) = sheetAsked L s ++ (questionB i s ∷ [])
 questions L (components s old) = sheetAsked L s ++ (question10 (componentsOutput s) (length old) ∷ [])
 questions L (default s old) = sheetAsked L s ++ (question10 (defaultOutput s) (length old) ∷ [])
 questions L (lparse s old) = sheetAsked L s ++ (question10 (lparseOutput s) (length old) ∷ [])
-questions L (test s q) = sheetAsked L s ++ (question8 L s q ∷ question9 s q ∷ [])
-questions L (missing s q old) = sheetAsked L s ++ (question8 L s q ∷ question14 s q ∷ question10 (missingOutput s q) (length old) ∷ [])
-questions L (unfolded s q old) = sheetAsked L s ++ (question8 L s q ∷ question9 s q ∷ question10 (unfoldedOutput s q) (length old) ∷ [])
-questions L (clauses s q old) = sheetAsked L s ++ (question8 L s q ∷ question9 s q ∷ question10 (clausesOutput s q) (length old) ∷ [])
+questions L (test s q) = sequenceAsked L s q (question9 s q ∷ [])
+questions L (missing s q old) = sequenceAsked L s q (question14 s q ∷ question10 (missingOutput s q) (length old) ∷ [])
+questions L (unfolded s q old) = sequenceAsked L s q (question9 s q ∷ question10 (unfoldedOutput s q) (length old) ∷ [])
+questions L (clauses s q old) = sequenceAsked L s q (question9 s q ∷ question10 (clausesOutput s q) (length old) ∷ [])
 questions L (count s) = sheetAsked L s ++ (question11 s ∷ [])
 
 -- All are answered by a yes.

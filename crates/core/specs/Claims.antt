@@ -64,6 +64,6 @@ OutputsShorten = (L : Limits) (S : Service) → Demand1 L S → Shorter S
 abbrev pub LparseFits : Type 0
 LparseFits = (L : Limits) → L .atoms ≤ 64 → L .records ≤ 128 → (s : List ℕ) → readQuestions L s ≡ 0 → length (lparseOutput s) ≤ 49088
 
--- No missing chain has more atoms than a component may have.
+-- No missing chain has more atoms than the service takes in a component.
 abbrev pub MissingFits : Type 0
-MissingFits = (L : Limits) (s q : List ℕ) → readQuestions L s ≡ 0 → length (missingOutput s q) ≤ L .component
+MissingFits = (L : Limits) (s q : List ℕ) → readQuestions L s ≡ 0 → length (missingOutput s q) ≤ L .taken .component

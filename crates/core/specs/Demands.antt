@@ -1,6 +1,6 @@
 -- The three demands of a service with these limits, what a solver reads of its lparse text, and what its missing chains are, over the answers that it
 -- allows to a call.
-use mathlib.Core.List.{List, [], _∷_, List·Memᴰ, _++_}
+use mathlib.Core.List.{List, [], _∷_, List·Memᴰ}
 use mathlib.Core.Logic.{_↔_}
 use mathlib.Core.Path.{_≡_}
 use Prim.Native.Nat.{ℕ, _≤_}
@@ -25,8 +25,7 @@ use Rattle.lparse_format.specs.Decoded.{readLparse}
 use Rattle.lparse_format.specs.Meaning.{SameModels}
 use Rattle.core.specs.Outcome.{Outcome, refused, answered, code}
 use Rattle.core.specs.Outputs.{defaultOutput}
-use Rattle.core.specs.Questions.{question8}
-use Rattle.core.specs.Calls.{Call, Buffer, unsigned, signed, lent, sheetAsked, questions, AllYes, FirstNo, values, written, Service}
+use Rattle.core.specs.Calls.{Call, Buffer, unsigned, signed, lent, sheetAsked, sequenceAsked, questions, AllYes, FirstNo, values, written, Service}
 use Rattle.core.specs.Calls as call
 
 -- The first no refuses, by its number alone, and what is lent stays as it was; without a no the values are answered and the output is written.
@@ -76,7 +75,7 @@ Accepted L s q = AllYes (questions L (call.test s q))
 
 -- They come as far as the chain question.
 abbrev pub AsFarAsChains : Limits → List ℕ → List ℕ → Type 0
-AsFarAsChains L s q = AllYes (sheetAsked L s ++ (question8 L s q ∷ []))
+AsFarAsChains L s q = AllYes (sequenceAsked L s q [])
 
 -- The literals name variables from 1 to v.
 abbrev pub Numbered : List Clause → ℕ → Type 0
@@ -120,6 +119,6 @@ pub record MissingChains (S : Service) : Type 0 where
   pub fourteen : (s q old : List ℕ) (o t : Outcome) (b c : Buffer) → S (call.missing s q old) o b → S (call.test s q) t c
       → (o ≡ refused 14) ↔ (t ≡ answered [])
 
--- Questions 8 and 9 never stop the default sequence.
+-- Questions 8, 16 and 9 never stop the default sequence.
 abbrev pub DefaultAccepted : Limits → Type 0
 DefaultAccepted L = (s : List ℕ) → AllYes (sheetAsked L s) → Accepted L s (defaultOutput s)

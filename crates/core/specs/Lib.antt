@@ -4,5 +4,6 @@ pub mod Questions
 pub mod Promises
 pub mod Calls
 pub mod Demands
+pub mod Services
 pub mod Claims
 pub mod inner

@@ -1,6 +1,6 @@
 -- The questions ("The questions" of document 01), and for each operation the chain of those that it asks, in their order.
 -- Each is 0 for a yes and its number for a no.
-use mathlib.Core.Bool.{not}
+use mathlib.Core.Bool.{not, _&&_}
 use mathlib.Core.List.{List}
 use Prim.Native.Nat.{ℕ, _+_}
 use lib.Dec.{leb, ltb}
@@ -39,9 +39,17 @@ question13 L s = ask (leb (atomsByte s + choices (records s)) (L .atoms)) 13
 abbrev pub question7 : Limits → List ℕ → ℕ
 question7 L s = ask (componentsFit (L .component) (program s)) 7
 
+-- 15: the service takes so many atoms, written and fresh, and so large components.
+abbrev pub question15 : Limits → List ℕ → ℕ
+question15 L s = ask (leb (program s .atoms) (L .taken .atoms) && componentsFit (L .taken .component) (program s)) 15
+
 -- 8: the sequence is well-formed, its entries being atoms of the program, written or fresh.
 abbrev pub question8 : Limits → List ℕ → List ℕ → ℕ
 question8 L s q = ask (sequenceFits L (program s .atoms) q) 8
+
+-- 16: the service takes so many entries.
+abbrev pub question16 : Limits → List ℕ → ℕ
+question16 L q = ask (leb (length (entries q)) (L .taken .entries)) 16
 
 -- 9: every chain is found in it.
 abbrev pub question9 : List ℕ → List ℕ → ℕ
@@ -66,13 +74,13 @@ questionB i s = ask (ltb i (recordsByte s)) 12
 -- Reading, and what every operation on a sheet alone asks first.
 unfoldable pub readQuestions : Limits → List ℕ → ℕ
 readQuestions L s =
-    question1 s then question2 s then question3 L s then questions4to6 s then question13 L s then question7 L s
+    question1 s then question2 s then question3 L s then questions4to6 s then question13 L s then question7 L s then question15 L s
 
 -- Testing a sequence, and what the operations that unfold by a sequence ask first.
 unfoldable pub testQuestions : Limits → List ℕ → List ℕ → ℕ
 testQuestions L s q =
-    question1 s then question2 s then question3 L s then questions4to6 s then question13 L s then question7 L s
-    then question8 L s q then question9 s q
+    question1 s then question2 s then question3 L s then questions4to6 s then question13 L s then question7 L s then question15 L s
+    then question8 L s q then question16 L q then question9 s q
 
 -- Showing a body.
 abbrev pub bodyQuestions : Limits → ℕ → List ℕ → ℕ
@@ -92,7 +100,8 @@ lparseQuestions L room s = readQuestions L s then question10 (lparseOutput s) ro
 
 -- Finding the missing chain: what testing asks, with 14 in place of 9, then 10.
 abbrev pub missingQuestions : Limits → ℕ → List ℕ → List ℕ → ℕ
-missingQuestions L room s q = readQuestions L s then question8 L s q then question14 s q then question10 (missingOutput s q) room
+missingQuestions L room s q =
+    readQuestions L s then question8 L s q then question16 L q then question14 s q then question10 (missingOutput s q) room
 
 -- Writing the unfolded program.
 abbrev pub unfoldedQuestions : Limits → ℕ → List ℕ → List ℕ → ℕ

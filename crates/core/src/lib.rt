@@ -3,9 +3,8 @@ use bits::byte_at;
 use chains::passes;
 use clause_output::numbers_of;
 use clause_output::put_clauses;
-use components::Components;
 use components::components_of;
-use components::fits;
+use components::largest;
 use lparse_output::lparse_length;
 use lparse_output::put_lparse;
 use missing::find_start;
@@ -28,7 +27,7 @@ use writer::put;
 ghost use denote.Ref.{ptr};
 ghost use mathlib.Core.Path.{_≡_};
 ghost use Prim.Native.Nat.{_≤_, _<_};
-ghost use lib.ListN.{length};
+ghost use lib.ListN.{length, replicate};
 ghost use Rattle.asp.specs.Count.{verdict};
 ghost use Rattle.sheet.specs.inner.Walk.{Walk};
 ghost use Rattle.reader.specs.inner.Tabled.{RecordArrays};
@@ -39,7 +38,7 @@ ghost use Rattle.core.specs.Outputs.{sequenceHeader};
 ghost use Rattle.core.specs.Promises.{ReadPromise, BodyPromise, SlicePromise, nowhere, FindPromise};
 ghost use Rattle.core.specs.Promises.{ComponentsPromise, DefaultPromise, LparsePromise, TestPromise, MissingPromise, UnfoldedPromise, ClausesPromise, CountPromise};
 ghost use Rattle.core.specs.inner.Places.{Placed};
-ghost use Rattle.core.specs.inner.Asked.{Supported, SheetAsked, RecordsAsked, SequenceAsked, BothKept};
+ghost use Rattle.core.specs.inner.Asked.{Supported, GraphArrays, sizesAsked, SheetAsked, RecordsAsked, formAsked, TableFor, SequenceAsked, BothKept};
 
 // Reading: the refusal, or the numbers of atoms and records.
 pub enum ReadAnswer {
@@ -84,35 +83,43 @@ pub enum CountAnswer {
     Counted(u64, Verdict),
 }
 
-// What the questions about a sheet say: the refusal, or 0 with its numbers of written atoms, of records and of all atoms, and the
-// components of its program.
+// What the questions about a sheet say: the refusal, or 0 with its numbers of written atoms, of records and of all atoms.
 pub struct Asked {
     pub refusal: u32,
     pub written: usize,
     pub records: usize,
     pub atoms: usize,
-    pub components: Components,
 }
 
 fn refused(refusal: u32) -> Asked
     ensures { λ r. ⌜ r .refusal ≡ refusal ⌝ }
 {
-    let components = Components {
-        edges: [0; 64],
-        ancestors: [0; 64],
-        names: [0; 64],
-        sets: [0; 64],
-    };
     Asked {
         refusal,
         written: 0,
         records: 0,
         atoms: 0,
-        components,
     }
 }
 
-// The questions about a sheet: 1 to 3, then 4 to 6 as its records are read, then 13, then 7.
+// The questions about components, of which the largest has so many of the atoms: 7, then 15.
+fn component_refusal(limits: Limits, atoms: usize, largest: usize) -> u32
+    ensures { λ r. ⌜ r ≡ sizesAsked limits atoms largest ⌝ }
+{
+    if limits.component < largest {
+        return 7;
+    }
+    if limits.taken.atoms < atoms {
+        return 15;
+    }
+    if limits.taken.component < largest {
+        return 15;
+    }
+    0
+}
+
+// The questions about a sheet: 1 to 3, then 4 to 6 as its records are read, then 13, 7 and 15. The records, the edges of their program,
+// the atoms that lead to each, its components' names and their sets are left in the arrays.
 fn ask_records(
     limits: Limits,
     s: &[u8],
@@ -120,9 +127,15 @@ fn ask_records(
     heads: &mut [u8; 128],
     pos: &mut [u64; 128],
     neg: &mut [u64; 128],
+    edges: &mut [u64; 64],
+    ancestors: &mut [u64; 64],
+    names: &mut [u8; 64],
+    sets: &mut [u64; 64],
 ) -> Asked
-    requires { ⌜ Supported limits × RecordArrays (now kinds) (now heads) (now pos) (now neg) ⌝ }
-    ensures { λ r. ⌜ RecordsAsked limits (now (s .entry)) (now (kinds .exit)) (now (heads .exit)) (now (pos .exit)) (now (neg .exit)) r ⌝ }
+    requires { ⌜ Supported limits × RecordArrays (now kinds) (now heads) (now pos) (now neg)
+        × GraphArrays (now edges) (now ancestors) (now names) (now sets) ⌝ }
+    ensures { λ r. ⌜ RecordsAsked limits (now (s .entry)) (now (kinds .exit)) (now (heads .exit)) (now (pos .exit)) (now (neg .exit))
+        (now (edges .exit)) (now (names .exit)) (now (sets .exit)) r ⌝ }
 {
     let header = read_header(limits, s);
     if header.refusal != 0 {
@@ -138,48 +151,81 @@ fn ask_records(
     if limits.atoms < atoms {
         return refused(13);
     }
-    let edges = edges_of(n, m, kinds, heads, pos, neg);
-    let rows = edges.rows;
-    let components = components_of(atoms, rows);
-    if !fits(&components.sets, atoms, limits.component) {
-        return refused(7);
+    edges_of(n, m, kinds, heads, pos, neg, edges);
+    components_of(atoms, edges, ancestors, names, sets);
+    let refusal = component_refusal(limits, atoms, largest(sets, atoms));
+    if refusal != 0 {
+        return refused(refusal);
     }
     Asked {
         refusal: 0,
         written: n,
         records: m,
         atoms,
-        components,
     }
 }
 
 // The same, where the records are not needed behind the questions.
-fn ask_sheet(limits: Limits, s: &[u8]) -> Asked
-    requires { ⌜ Supported limits ⌝ }
-    ensures { λ r. ⌜ SheetAsked limits (now (s .entry)) r ⌝ }
+fn ask_sheet(
+    limits: Limits,
+    s: &[u8],
+    edges: &mut [u64; 64],
+    names: &mut [u8; 64],
+    sets: &mut [u64; 64],
+) -> Asked
+    requires { ⌜ Supported limits × (now edges ≡ replicate 64 0) × (length (now names) ≡ 64) × (now sets ≡ replicate 64 0) ⌝ }
+    ensures { λ r. ⌜ SheetAsked limits (now (s .entry)) (now (edges .exit)) (now (names .exit)) (now (sets .exit)) r ⌝ }
 {
     let mut kinds = [0u8; 128];
     let mut heads = [0u8; 128];
     let mut pos = [0u64; 128];
     let mut neg = [0u64; 128];
-    ask_records(limits, s, &mut kinds, &mut heads, &mut pos, &mut neg)
+    let mut ancestors = [0u64; 64];
+    ask_records(
+        limits,
+        s,
+        &mut kinds,
+        &mut heads,
+        &mut pos,
+        &mut neg,
+        edges,
+        &mut ancestors,
+        names,
+        sets,
+    )
 }
 
-// The questions about a sequence, of a program of n atoms with its edges and the sets of its components: 8, then 9.
-fn ask_sequence<'a>(
-    limits: Limits,
-    n: usize,
-    edges: &'a [u64; 64],
-    sets: &'a [u64; 64],
-    q: &[u8],
-) -> u32
-    requires { ⌜ (n ≤ 64) × Small n (now sets) ⌝ }
-    ensures { λ r. ⌜ SequenceAsked limits n (now (edges .entry)) (now (sets .entry)) (now (q .entry)) r ⌝ }
+// The questions about the form of a sequence over n atoms: 8, then 16.
+fn ask_form(limits: Limits, n: usize, q: &[u8]) -> u32
+    ensures { λ r. ⌜ r ≡ formAsked limits n (now (q .entry)) ⌝ }
 {
     if !sequence_fits(limits, n, q) {
         return 8;
     }
-    if !passes(n, edges, sets, q) {
+    if limits.taken.entries < q.len() - 3 {
+        return 16;
+    }
+    0
+}
+
+// The questions about a sequence, of a program of n atoms with its edges and the sets of its components: 8, 16, then 9. The table is for
+// the rows of a component.
+fn ask_sequence(
+    limits: Limits,
+    n: usize,
+    edges: &[u64; 64],
+    sets: &[u64; 64],
+    q: &[u8],
+    table: &mut [u64],
+) -> u32
+    requires { ⌜ (n ≤ 64) × Small n (now sets) (length (now table)) ⌝ }
+    ensures { λ r. ⌜ SequenceAsked limits n (now (edges .entry)) (now (sets .entry)) (now (q .entry)) r ⌝ }
+{
+    let refusal = ask_form(limits, n, q);
+    if refusal != 0 {
+        return refusal;
+    }
+    if !passes(table, n, edges, sets, q) {
         return 9;
     }
     0
@@ -194,17 +240,33 @@ fn ask_both(
     heads: &mut [u8; 128],
     pos: &mut [u64; 128],
     neg: &mut [u64; 128],
+    names: &mut [u8; 64],
+    sets: &mut [u64; 64],
+    table: &mut [u64],
 ) -> Asked
-    requires { ⌜ Supported limits × RecordArrays (now kinds) (now heads) (now pos) (now neg) ⌝ }
+    requires { ⌜ Supported limits × TableFor limits (now table) × RecordArrays (now kinds) (now heads) (now pos) (now neg)
+        × (length (now names) ≡ 64) × (now sets ≡ replicate 64 0) ⌝ }
     ensures { λ r. ⌜ BothKept limits (now (s .entry)) (now (q .entry))
-        (now (kinds .exit)) (now (heads .exit)) (now (pos .exit)) (now (neg .exit)) r ⌝ }
+        (now (kinds .exit)) (now (heads .exit)) (now (pos .exit)) (now (neg .exit)) (now (names .exit)) (now (sets .exit)) r ⌝ }
 {
-    let a = ask_records(limits, s, kinds, heads, pos, neg);
+    let mut edges = [0u64; 64];
+    let mut ancestors = [0u64; 64];
+    let a = ask_records(
+        limits,
+        s,
+        kinds,
+        heads,
+        pos,
+        neg,
+        &mut edges,
+        &mut ancestors,
+        names,
+        sets,
+    );
     if a.refusal != 0 {
         return a;
     }
-    let n = a.atoms;
-    let refusal = ask_sequence(limits, n, &a.components.edges, &a.components.sets, q);
+    let refusal = ask_sequence(limits, a.atoms, &edges, sets, q, table);
     if refusal != 0 {
         return refused(refusal);
     }
@@ -216,7 +278,10 @@ pub fn read(limits: Limits, s: &[u8]) -> ReadAnswer
     requires { ⌜ Supported limits ⌝ }
     ensures { λ r. ⌜ ReadPromise limits (now (s .entry)) r ⌝ }
 {
-    let a = ask_sheet(limits, s);
+    let mut edges = [0u64; 64];
+    let mut names = [0u8; 64];
+    let mut sets = [0u64; 64];
+    let a = ask_sheet(limits, s, &mut edges, &mut names, &mut sets);
     let refusal = a.refusal;
     if refusal != 0 {
         return ReadAnswer::Refused(refusal);
@@ -259,11 +324,15 @@ fn no_body(refusal: u32) -> BodyPlace
     }
 }
 
+// Showing a body: the refusal, or where it stands.
 pub fn find_body(limits: Limits, s: &[u8], number: usize) -> BodyPlace
     requires { ⌜ Supported limits ⌝ }
     ensures { λ r. ⌜ FindPromise limits number (now (s .entry)) r ⌝ }
 {
-    let a = ask_sheet(limits, s);
+    let mut edges = [0u64; 64];
+    let mut names = [0u8; 64];
+    let mut sets = [0u64; 64];
+    let a = ask_sheet(limits, s, &mut edges, &mut names, &mut sets);
     let refusal = a.refusal;
     if refusal != 0 {
         return no_body(refusal);
@@ -317,7 +386,10 @@ pub fn components(limits: Limits, s: &[u8], out: &mut [u8]) -> WriteAnswer
     requires { ⌜ Supported limits ⌝ }
     ensures { λ r. ⌜ ComponentsPromise limits (now (s .entry)) (now (out .entry)) (now (out .exit)) r ⌝ }
 {
-    let a = ask_sheet(limits, s);
+    let mut edges = [0u64; 64];
+    let mut names = [0u8; 64];
+    let mut sets = [0u64; 64];
+    let a = ask_sheet(limits, s, &mut edges, &mut names, &mut sets);
     let refusal = a.refusal;
     if refusal != 0 {
         return WriteAnswer::Refused(refusal);
@@ -326,7 +398,7 @@ pub fn components(limits: Limits, s: &[u8], out: &mut [u8]) -> WriteAnswer
     if out.len() < n {
         return WriteAnswer::Refused(10);
     }
-    let length = put_names(out, 0, &a.components.names, n);
+    let length = put_names(out, 0, &names, n);
     WriteAnswer::Length(length)
 }
 
@@ -345,18 +417,21 @@ pub fn default_sequence(limits: Limits, s: &[u8], out: &mut [u8]) -> WriteAnswer
     requires { ⌜ Supported limits ⌝ }
     ensures { λ r. ⌜ DefaultPromise limits (now (s .entry)) (now (out .entry)) (now (out .exit)) r ⌝ }
 {
-    let a = ask_sheet(limits, s);
+    let mut edges = [0u64; 64];
+    let mut names = [0u8; 64];
+    let mut sets = [0u64; 64];
+    let a = ask_sheet(limits, s, &mut edges, &mut names, &mut sets);
     let refusal = a.refusal;
     if refusal != 0 {
         return WriteAnswer::Refused(refusal);
     }
     let n = a.atoms;
-    let t = blocks_length(&a.components.sets, n);
+    let t = blocks_length(&sets, n);
     if out.len() < t + 3 {
         return WriteAnswer::Refused(10);
     }
     let at = put_header(out, t);
-    let length = put_blocks(out, at, &a.components.sets, n);
+    let length = put_blocks(out, at, &sets, n);
     WriteAnswer::Length(length)
 }
 
@@ -369,7 +444,22 @@ pub fn lparse(limits: Limits, s: &[u8], out: &mut [u8]) -> WriteAnswer
     let mut heads = [0u8; 128];
     let mut pos = [0u64; 128];
     let mut neg = [0u64; 128];
-    let a = ask_records(limits, s, &mut kinds, &mut heads, &mut pos, &mut neg);
+    let mut edges = [0u64; 64];
+    let mut ancestors = [0u64; 64];
+    let mut names = [0u8; 64];
+    let mut sets = [0u64; 64];
+    let a = ask_records(
+        limits,
+        s,
+        &mut kinds,
+        &mut heads,
+        &mut pos,
+        &mut neg,
+        &mut edges,
+        &mut ancestors,
+        &mut names,
+        &mut sets,
+    );
     let refusal = a.refusal;
     if refusal != 0 {
         return WriteAnswer::Refused(refusal);
@@ -384,15 +474,28 @@ pub fn lparse(limits: Limits, s: &[u8], out: &mut [u8]) -> WriteAnswer
 }
 
 // Testing a sequence: every chain must be found in it.
-pub fn test(limits: Limits, s: &[u8], q: &[u8]) -> TestAnswer
-    requires { ⌜ Supported limits ⌝ }
+pub fn test(limits: Limits, s: &[u8], q: &[u8], table: &mut [u64]) -> TestAnswer
+    requires { ⌜ Supported limits × TableFor limits (now table) ⌝ }
     ensures { λ r. ⌜ TestPromise limits (now (s .entry)) (now (q .entry)) r ⌝ }
 {
     let mut kinds = [0u8; 128];
     let mut heads = [0u8; 128];
     let mut pos = [0u64; 128];
     let mut neg = [0u64; 128];
-    let a = ask_both(limits, s, q, &mut kinds, &mut heads, &mut pos, &mut neg);
+    let mut names = [0u8; 64];
+    let mut sets = [0u64; 64];
+    let a = ask_both(
+        limits,
+        s,
+        q,
+        &mut kinds,
+        &mut heads,
+        &mut pos,
+        &mut neg,
+        &mut names,
+        &mut sets,
+        table,
+    );
     let refusal = a.refusal;
     if refusal != 0 {
         return TestAnswer::Refused(refusal);
@@ -401,20 +504,24 @@ pub fn test(limits: Limits, s: &[u8], q: &[u8]) -> TestAnswer
 }
 
 // Finding the missing chain: the shortest chain that is not found in the sequence.
-pub fn missing(limits: Limits, s: &[u8], q: &[u8], out: &mut [u8]) -> WriteAnswer
-    requires { ⌜ Supported limits ⌝ }
+pub fn missing(limits: Limits, s: &[u8], q: &[u8], out: &mut [u8], table: &mut [u64]) -> WriteAnswer
+    requires { ⌜ Supported limits × TableFor limits (now table) ⌝ }
     ensures { λ r. ⌜ MissingPromise limits (now (s .entry)) (now (q .entry)) (now (out .entry)) (now (out .exit)) r ⌝ }
 {
-    let a = ask_sheet(limits, s);
+    let mut edges = [0u64; 64];
+    let mut names = [0u8; 64];
+    let mut sets = [0u64; 64];
+    let a = ask_sheet(limits, s, &mut edges, &mut names, &mut sets);
     let refusal = a.refusal;
     if refusal != 0 {
         return WriteAnswer::Refused(refusal);
     }
     let n = a.atoms;
-    if !sequence_fits(limits, n, q) {
-        return WriteAnswer::Refused(8);
+    let form = ask_form(limits, n, q);
+    if form != 0 {
+        return WriteAnswer::Refused(form);
     }
-    let start = find_start(n, &a.components.edges, &a.components.sets, q);
+    let start = find_start(table, n, &edges, &sets, q);
     // More than 64 atoms stand for no chain.
     if 64 < start.length {
         return WriteAnswer::Refused(14);
@@ -422,58 +529,164 @@ pub fn missing(limits: Limits, s: &[u8], q: &[u8], out: &mut [u8]) -> WriteAnswe
     if out.len() < start.length {
         return WriteAnswer::Refused(10);
     }
-    let length = put_missing(out, &a.components.edges, q, start);
+    let length = put_missing(out, table, &edges, q, start);
     WriteAnswer::Length(length)
 }
 
 // Writing the unfolded program.
-pub fn unfolded(limits: Limits, s: &[u8], q: &[u8], out: &mut [u32]) -> WriteAnswer
-    requires { ⌜ Supported limits ⌝ }
+pub fn unfolded(
+    limits: Limits,
+    s: &[u8],
+    q: &[u8],
+    out: &mut [u32],
+    table: &mut [u64],
+) -> WriteAnswer
+    requires { ⌜ Supported limits × TableFor limits (now table) ⌝ }
     ensures { λ r. ⌜ UnfoldedPromise limits (now (s .entry)) (now (q .entry)) (now (out .entry)) (now (out .exit)) r ⌝ }
 {
     let mut kinds = [0u8; 128];
     let mut heads = [0u8; 128];
     let mut pos = [0u64; 128];
     let mut neg = [0u64; 128];
-    let a = ask_both(limits, s, q, &mut kinds, &mut heads, &mut pos, &mut neg);
+    let mut names = [0u8; 64];
+    let mut sets = [0u64; 64];
+    let a = ask_both(
+        limits,
+        s,
+        q,
+        &mut kinds,
+        &mut heads,
+        &mut pos,
+        &mut neg,
+        &mut names,
+        &mut sets,
+        table,
+    );
     let refusal = a.refusal;
     if refusal != 0 {
         return WriteAnswer::Refused(refusal);
     }
-    let program = program_of(a.written, a.records, &kinds, &heads, &pos, &neg);
-    let components = a.components;
-    let names = components.names;
-    let sets = components.sets;
-    if out.len() < unfolded_length(program, q, &names, &sets) {
+    let mut rule_heads = [0u8; 192];
+    let mut rule_pos = [0u64; 192];
+    let mut sources = [0u8; 192];
+    let mut added = [0u8; 192];
+    let size = program_of(
+        a.written,
+        a.records,
+        &kinds,
+        &heads,
+        &pos,
+        &neg,
+        &mut rule_heads,
+        &mut rule_pos,
+        &mut sources,
+        &mut added,
+    );
+    if out.len()
+        < unfolded_length(
+            size,
+            &rule_heads,
+            &rule_pos,
+            &sources,
+            &neg,
+            &added,
+            q,
+            &names,
+            &sets,
+        )
+    {
         return WriteAnswer::Refused(10);
     }
-    let length = put_unfolded(out, program, q, &names, &sets);
+    let length = put_unfolded(
+        out,
+        size,
+        &rule_heads,
+        &rule_pos,
+        &sources,
+        &neg,
+        &added,
+        q,
+        &names,
+        &sets,
+    );
     WriteAnswer::Length(length)
 }
 
 // Writing clauses.
-pub fn clauses(limits: Limits, s: &[u8], q: &[u8], out: &mut [i32]) -> ClausesAnswer
-    requires { ⌜ Supported limits ⌝ }
+pub fn clauses(
+    limits: Limits,
+    s: &[u8],
+    q: &[u8],
+    out: &mut [i32],
+    table: &mut [u64],
+) -> ClausesAnswer
+    requires { ⌜ Supported limits × TableFor limits (now table) ⌝ }
     ensures { λ r. ⌜ ClausesPromise limits (now (s .entry)) (now (q .entry)) (now (out .entry)) (now (out .exit)) r ⌝ }
 {
     let mut kinds = [0u8; 128];
     let mut heads = [0u8; 128];
     let mut pos = [0u64; 128];
     let mut neg = [0u64; 128];
-    let a = ask_both(limits, s, q, &mut kinds, &mut heads, &mut pos, &mut neg);
+    let mut names = [0u8; 64];
+    let mut sets = [0u64; 64];
+    let a = ask_both(
+        limits,
+        s,
+        q,
+        &mut kinds,
+        &mut heads,
+        &mut pos,
+        &mut neg,
+        &mut names,
+        &mut sets,
+        table,
+    );
     let refusal = a.refusal;
     if refusal != 0 {
         return ClausesAnswer::Refused(refusal);
     }
-    let program = program_of(a.written, a.records, &kinds, &heads, &pos, &neg);
-    let components = a.components;
-    let names = components.names;
-    let sets = components.sets;
-    let numbers = numbers_of(program, q, &names, &sets);
+    let mut rule_heads = [0u8; 192];
+    let mut rule_pos = [0u64; 192];
+    let mut sources = [0u8; 192];
+    let mut added = [0u8; 192];
+    let size = program_of(
+        a.written,
+        a.records,
+        &kinds,
+        &heads,
+        &pos,
+        &neg,
+        &mut rule_heads,
+        &mut rule_pos,
+        &mut sources,
+        &mut added,
+    );
+    let numbers = numbers_of(
+        size,
+        &rule_heads,
+        &rule_pos,
+        &sources,
+        &neg,
+        &added,
+        q,
+        &names,
+        &sets,
+    );
     if out.len() < numbers.words {
         return ClausesAnswer::Refused(10);
     }
-    let length = put_clauses(out, program, q, &names, &sets);
+    let length = put_clauses(
+        out,
+        size,
+        &rule_heads,
+        &rule_pos,
+        &sources,
+        &neg,
+        &added,
+        q,
+        &names,
+        &sets,
+    );
     ClausesAnswer::Written(length, numbers.variables, numbers.clauses)
 }
 
@@ -498,13 +711,27 @@ pub fn count(limits: Limits, s: &[u8]) -> CountAnswer
     let mut heads = [0u8; 128];
     let mut pos = [0u64; 128];
     let mut neg = [0u64; 128];
-    let a = ask_records(limits, s, &mut kinds, &mut heads, &mut pos, &mut neg);
+    let mut edges = [0u64; 64];
+    let mut ancestors = [0u64; 64];
+    let mut names = [0u8; 64];
+    let mut sets = [0u64; 64];
+    let a = ask_records(
+        limits,
+        s,
+        &mut kinds,
+        &mut heads,
+        &mut pos,
+        &mut neg,
+        &mut edges,
+        &mut ancestors,
+        &mut names,
+        &mut sets,
+    );
     let refusal = a.refusal;
     if refusal != 0 {
         return CountAnswer::Refused(refusal);
     }
     let m = a.records;
-    let ancestors = a.components.ancestors;
     let found = counting::count(m, &mut kinds, &mut heads, &mut pos, &mut neg, &ancestors);
     let states = found.states;
     if found.crowded {

@@ -8,7 +8,6 @@ use native.Mathlib.Omega.{arith}
 use borrow.Author.Tests.{eq-eqb, ltb-true}
 use lib.Dec.{eqb, ltb}
 use lib.ListN.{length, getD, drop}
-use lib.Pow.{pow-mono}
 use lib.Seq.{drop-cons, drop-length}
 use Rattle.lists.specs.Lists.{range}
 use Rattle.lists.proofs.Bools.{true-false, is-false, and-left, and-right, not-elim}
@@ -77,9 +76,6 @@ module _ (q : List ℕ) (from a : ℕ) where
 -- The extension behind L, from the parts that the code computes.
 module _ (rows atoms : List ℕ) (k : ℕ) (few : k ≤ 10) (q : List ℕ) (L : Extension) (F : Fits k q L) (more : 1 < L .left) (x : ℕ) (is : x ≡ getD atoms (L .place) 0) (from : ℕ) (B : Behind q (L .from) x from)
     (less : ℕ) (W : Without (L .unused) (L .place) less) where
-  pub less-bound : less < 1024
-  less-bound = let h = W .falls in let u = F .small in let e = pow-mono {i = k} {j = 10} few in omega arith
-
   -- One place fewer.
   fewer : length (listed less) < length (listed (L .unused))
   unfolding listed

@@ -1,4 +1,4 @@
--- Laws of a extension and the one behind it.
+-- Laws of an extension and the one behind it.
 use mathlib.Core.Bool.{true, false}
 use mathlib.Core.List.{List, [], _∷_, List·Memᴰ, List·Memᴰ·head, List·Memᴰ·tail, List·Memᴰ·cases-cons, List·Memᴰ·eq-of-singleton, Sublistᴰ}
 use mathlib.Core.Logic.{⊎-elim}

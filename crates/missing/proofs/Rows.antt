@@ -9,7 +9,6 @@ use borrow.Author.Tests.{eqb-true, eqb-false}
 use lib.Count.{trailingZeros}
 use lib.Dec.{eqb}
 use lib.ListN.{length, getD}
-use lib.Pow.{pow-lt}
 use Rattle.lists.specs.Lists.{range}
 use Rattle.lists.proofs.Bools.{by-bool, true-false, and-intro, and-left, and-right, or-cases, or-left, or-right, not-intro, not-elim}
 use Rattle.lists.proofs.Members.{filter-in, range-in}
@@ -83,12 +82,12 @@ module _ (sets : List ℕ) (U k : ℕ) where
   no-member (q ∷ l) p m e = absurd (omega arith)
 
   -- A set that lacks a place has one.
-  pub none-start : U < 1024 → NoneBelow sets U 1
+  pub none-start : U < 2 ^ 64 → NoneBelow sets U 1
   unfolding listed
   none-start small =
       record {
         none = λ j l p T h K.
-            let low = has-bound T p (let e = pow-lt {i = 10} {j = 64} (omega arith) in omega arith) (K .own) in
+            let low = has-bound T p (omega arith) (K .own) in
             let few = K .few in
             no-member (listed T) p (filter-in (has T) (range 0 64) p (range-in 0 64 p (omega arith) (omega arith)) (K .own)) (omega arith);
       }

@@ -8,8 +8,8 @@ use native.Mathlib.Omega.{arith}
 use borrow.Author.Tests.{eqb-true, eqb-false, ltb-true, ltb-false, lt-ltb}
 use lib.Dec.{eqb, ltb}
 use lib.ListN.{length, getD, drop}
-use Rattle.lists.proofs.Bools.{by-bool, true-false, is-true}
 use Rattle.lists.specs.Lists.{range}
+use Rattle.lists.proofs.Bools.{by-bool, true-false, is-true}
 use Rattle.lists.proofs.Members.{below-at, range-in}
 use Rattle.lists.proofs.Nodup.{nodup-le, length-range}
 use Rattle.asp.specs.Program.{Program}
@@ -22,22 +22,18 @@ use Rattle.bits.specs.inner.Sets.{Gathered, Subset, Size}
 use Rattle.bits.specs.inner.Listed.{Listing}
 use Rattle.bits.specs.inner.Visited.{listed, Lowest}
 use Rattle.bits.specs.declared.Atoms.{Atoms}
-use Rattle.bits.proofs.Visiting.{has-some, listed-none}
-use Rattle.chains.specs.inner.Subsets.{Setting, AtPlaces, Filled, PlaceOf, Power, Edged, Members, SetTested, Graph}
+use Rattle.bits.proofs.Visiting.{has-some}
 use Rattle.bits.proofs.Listing.{listed-rising, listed-own, listed-differ}
+use Rattle.chains.specs.inner.Subsets.{Roomy, Setting, AtPlaces, Filled, PlaceOf, Power, Edged, Members, Graph}
 use Rattle.chains.proofs.Places.{full-places, full-small}
 use Rattle.chains.proofs.Turning.{whole-atoms, filled-tested}
-use Rattle.chains.proofs.Components.{setting, named-place, atom-named, places-few, set-tested, set-alone}
+use Rattle.chains.proofs.Components.{setting, named-place, atom-named, places-roomy, set-tested, set-alone}
 use Rattle.missing.specs.declared.Start.{Start}
 use Rattle.missing.specs.declared.Extension.{Extension}
 use Rattle.missing.specs.inner.Lacking.{Lacks, Lacking, Shortest}
 use Rattle.missing.specs.inner.Extending.{Fits, LacksAt, FirstAt, SomeLacks, ChainPut}
-use Rattle.missing.specs.inner.Starts.{Begins, FewAtoms, noStart, ComponentStart, NotBehind, Earlier, FoundAlone, Improved, StartOf, SomeMissing, MissingPut}
+use Rattle.missing.specs.inner.Starts.{Begins, noStart, ComponentStart, NotBehind, Earlier, Improved, StartOf, SomeMissing, MissingPut}
 use Rattle.missing.proofs.Sets.{found-unless, lacking-fails}
-
--- None.
-none-few : FewAtoms noStart
-none-few = record { few = let e = ap length listed-none in omega arith }
 
 -- Where every chain is found.
 begins-none : (P : Program) (s : List ℕ) (C : ℕ → Type 0) → ((b : ℕ) (w : List ℕ) → C b → Chain P (b ∷ w) → Sublistᴰ (b ∷ w) s) → Begins P s C noStart
@@ -106,22 +102,25 @@ module _ (x : ℕ) (L : Atoms) (S : Listing x L) (P : Program) (c : ℕ) (rows :
               (λ l. by-bool (eqb p d) (λ e. let g = ap atom (eqb-true p d e) in absurd (omega arith))
               (λ e. let j = ltb-false p d l in let ne = eqb-false p d e in let r = listed-rising x L S .rises d p (omega arith) h in absurd (omega arith)))
 
+-- The table has a row for the whole component.
+pub whole-row : (x : ℕ) (L : Atoms) → Listing x L → (size rows r : ℕ) → Power (L .t) size → Roomy (length (listed x)) rows → r ≡ rows → size - 1 < r
+whole-row x L S size rows r N R e = let room = places-roomy x L S rows R .room in let is = N .is in let some = N .some in omega arith
+
 -- A component's start, as the code has it.
 module _ (x : ℕ) (L : Atoms) (S : Listing x L) (rows s sets : List ℕ) (T : Filled rows (L .atoms) (L .t) s sets) (size : ℕ) (N : Power (L .t) size) where
   pub component-none : (b : Bool) (r : Start) → Subset (size - 1) (getD sets (size - 1) 0) b → b ≡ true → r ≡ noStart → ComponentStart rows x s r
   component-none b r B e n =
       subst (ComponentStart rows x s) (sym n)
       (record {
-        few = none-few;
         is = λ P c G M.
             let all = set-tested x L S rows s b (filled-tested rows (L .atoms) (L .t) s size sets b T N B) .is P c G M .is .0 e in
             begins-none P s (λ b. component P b ≡ c) (λ b w d C. all b w C d);
       })
 
-module _ (x : ℕ) (L : Atoms) (S : Listing x L) (rows s sets : List ℕ) (T : Filled rows (L .atoms) (L .t) s sets) (size : ℕ) (N : Power (L .t) size) (small : length (listed x) ≤ 10)
+module _ (x : ℕ) (L : Atoms) (S : Listing x L) (rows s sets : List ℕ) (T : Filled rows (L .atoms) (L .t) s sets) (size : ℕ) (N : Power (L .t) size) (room : ℕ) (R : Roomy (length (listed x)) room)
     (m places : ℕ) (H : Shortest sets (size - 1) (L .t) m) (A : Lacking sets (size - 1) m places) where
   abbrev few : L .t ≤ 10
-  few = places-few x L S small
+  few = places-roomy x L S room R .few
 
   -- The row of the whole component lacks a place, so some set of at most m places does.
   module _ (z : places ≡ 0) where
@@ -150,7 +149,7 @@ module _ (x : ℕ) (L : Atoms) (S : Listing x L) (rows s sets : List ℕ) (T : F
 
     pub component-some : (a : ℕ) → a ≡ getD (L .atoms) d 0 → ComponentStart rows x s (record { length = m; atom = a; set = x })
     component-some a e =
-        record { few = record { few = small }; is = λ P c G M. subst (λ a. Begins P s (λ b. component P b ≡ c) (record { length = m; atom = a; set = x })) (sym e) (some-begins x L S P c rows G M s sets T size N few m places H A d Z) }
+        record { is = λ P c G M. subst (λ a. Begins P s (λ b. component P b ≡ c) (record { length = m; atom = a; set = x })) (sym e) (some-begins x L S P c rows G M s sets T size N few m places H A d Z) }
 
 -- A start stays where the other chains that come before it are found.
 module _ (P : Program) (s : List ℕ) (C D : ℕ → Type 0) where
@@ -178,24 +177,17 @@ begins-earlier P s C D a b r A B =
     ⊎-elim (λ h. subst (Begins P s (λ y. C y ⊎ D y)) (sym (h .0)) (begins-first P s C D a b A B (h .1)))
     (λ h. subst (Begins P s (λ y. C y ⊎ D y)) (sym (h .0)) (begins-narrow P s (λ y. D y ⊎ C y) (λ y. C y ⊎ D y) b (λ y. ⊎-elim inr inl) (begins-first P s D C b a B A (h .1))))
 
--- An atom that stands in the sequence.
-pub alone-found : (x size e : ℕ) (b : Bool) → Size x size → size ≤ 1 → Subset x e b → FoundAlone x e b
-alone-found x size e b Z one B = record { is = λ t rows s K. subst (SetTested rows x s) t (set-alone rows s x size e b Z one K B) }
-
-pub not-alone : (x e : ℕ) → FoundAlone x e false
-not-alone x e = record { is = λ t. absurd (true-false t refl) }
-
 -- One component more.
-module _ (best : Start) (rows : List ℕ) (x : ℕ) (s : List ℕ) (F : FewAtoms best) where
+module _ (best : Start) (rows : List ℕ) (x : ℕ) (s : List ℕ) where
   below-or : (P : Program) (c b : ℕ) → component P b < c + 1 → (component P b < c) ⊎ (component P b ≡ c)
   below-or P c b l = by-bool (eqb (component P b) c) (λ e. inr (eqb-true (component P b) c e)) (λ e. let ne = eqb-false (component P b) c e in inl (omega arith))
 
-  pub improved-found : (entries : ℕ) (t : Bool) → Gathered s entries → FoundAlone x entries t → t ≡ true → Improved best rows x s best
-  improved-found entries t A T e =
+  -- An atom alone that stands in the sequence.
+  pub improved-found : (size entries : ℕ) (b : Bool) → Gathered s entries → Size x size → size ≤ 1 → Subset x entries b → b ≡ true → Improved best rows x s best
+  improved-found size entries b A Z one T e =
       record {
-        few = F;
         is = λ P c G M B.
-            let all = T .is e rows s A .is P c G M .is .0 refl in
+            let all = set-alone rows s x size entries b Z one A T .is P c G M .is .0 e in
             begins-narrow P s (λ b. (component P b < c) ⊎ (component P b ≡ c)) (λ b. component P b < c + 1) best (below-or P c)
             (begins-with P s (λ b. component P b < c) (λ b. component P b ≡ c) best B (λ b w d C l. all b w C d) (λ b w d C g l. all b w C d));
       }
@@ -203,7 +195,6 @@ module _ (best : Start) (rows : List ℕ) (x : ℕ) (s : List ℕ) (F : FewAtoms
   pub improved-lacking : (a r : Start) → ComponentStart rows x s a → Earlier best a r → Improved best rows x s r
   improved-lacking a r A E =
       record {
-        few = ⊎-elim (λ h. subst FewAtoms (sym (h .0)) F) (λ h. subst FewAtoms (sym (h .0)) (A .few)) E;
         is = λ P c G M B.
             begins-narrow P s (λ b. (component P b < c) ⊎ (component P b ≡ c)) (λ b. component P b < c + 1) r (below-or P c)
             (begins-earlier P s (λ b. component P b < c) (λ b. component P b ≡ c) best a r B (A .is P c G M) E);
@@ -211,21 +202,19 @@ module _ (best : Start) (rows : List ℕ) (x : ℕ) (s : List ℕ) (F : FewAtoms
 
 -- The start in the components named below c.
 pub record StartSofar (n : ℕ) (rows sets s : List ℕ) (c : ℕ) (r : Start) : Type 0 where
-  pub few : FewAtoms r
   pub is : (P : Program) → Graph P n rows sets → Begins P s (λ b. component P b < c) r
 
 module _ (n : ℕ) (rows sets s : List ℕ) where
   pub sofar-start : (r : Start) → r ≡ noStart → StartSofar n rows sets s 0 r
   sofar-start r e =
-      subst (StartSofar n rows sets s 0) (sym e) (record { few = none-few; is = λ P G. begins-none P s (λ b. component P b < 0) (λ b w l. absurd (omega arith)) })
+      subst (StartSofar n rows sets s 0) (sym e) (record { is = λ P G. begins-none P s (λ b. component P b < 0) (λ b w l. absurd (omega arith)) })
 
   pub sofar-turn : (c : ℕ) (old new : Start) → StartSofar n rows sets s c old → c < n → n ≤ 64 → Improved old rows (getD sets c 0) s new → StartSofar n rows sets s (c + 1) new
-  sofar-turn c old new F l h I = record { few = I .few; is = λ P G. I .is P c (G .edged) (G .grouped c (omega arith)) (F .is P G) }
+  sofar-turn c old new F l h I = record { is = λ P G. I .is P c (G .edged) (G .grouped c (omega arith)) (F .is P G) }
 
   pub sofar-end : (c : ℕ) (r : Start) → StartSofar n rows sets s c r → n ≤ c → StartOf n rows sets s r
   sofar-end c r F l =
       record {
-        few = F .few;
         is = λ P G.
             begins-narrow P s (λ b. component P b < c) (λ b. b < P .atoms) r
             (λ b low. let h = component-smallest P (G .edged .formed) b b low (same-refl P (G .edged .formed) b low) in let e = G .size in omega arith) (F .is P G);
@@ -273,7 +262,6 @@ module _ (rows q : List ℕ) (start : Start) (L : Atoms) (S : Listing (start .se
     -- The first chain from there is the shortest that is missing.
     start-shortest : (w : List ℕ) → FirstAt P (L .atoms) (L .t) q extension w → ShortestMissing P (drop 3 q) (getD (L .atoms) p 0 ∷ w)
     start-shortest w H =
-        let long = H .within .long in
         record {
           chain = H .within .chain;
           lacking = H .lacking;

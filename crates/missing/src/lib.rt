@@ -23,14 +23,14 @@ ghost use Rattle.lists.specs.Lists.{below};
 ghost use Rattle.bits.specs.inner.Sets.{Gathered};
 ghost use Rattle.bits.specs.inner.Listed.{Low, RisesTo};
 ghost use Rattle.bits.specs.inner.Visited.{listed};
-ghost use Rattle.chains.specs.inner.Subsets.{Small};
+ghost use Rattle.chains.specs.inner.Subsets.{Roomy, Small};
 ghost use Rattle.missing.specs.inner.Lacking.{LackingIn, Lacking, Shortest};
 ghost use Rattle.missing.specs.inner.Extending.{Behind, Fits, SomeLacks, Next, ChainPut};
-ghost use Rattle.missing.specs.inner.Starts.{FewAtoms, noStart, ComponentStart, Earlier, FoundAlone, Improved, StartOf, SomeMissing, MissingPut};
+ghost use Rattle.missing.specs.inner.Starts.{noStart, ComponentStart, Earlier, Improved, StartOf, SomeMissing, MissingPut};
 
 // The places that a set's row lacks, where the set lies in `unused` and has at most m places.
-fn lacking_in(sets: &[u64; 1024], unused: u64, m: usize, set: usize) -> u64
-    requires { ⌜ set < 1024 ⌝ }
+fn lacking_in(sets: &[u64], unused: u64, m: usize, set: usize) -> u64
+    requires { ⌜ set < length (now sets) ⌝ }
     ensures { λ r. ⌜ LackingIn (now (sets .entry)) unused m set r ⌝ }
 {
     let places = set as u64;
@@ -44,8 +44,8 @@ fn lacking_in(sets: &[u64; 1024], unused: u64, m: usize, set: usize) -> u64
 }
 
 // The places from which some chain of at most m atoms is missing, its places all of `unused`: those that some set's row lacks.
-fn lacking(sets: &[u64; 1024], unused: u64, m: usize) -> u64
-    requires { ⌜ unused < 1024 ⌝ }
+fn lacking(sets: &[u64], unused: u64, m: usize) -> u64
+    requires { ⌜ unused < length (now sets) ⌝ }
     ensures { λ r. ⌜ Lacking (now (sets .entry)) unused m r ⌝ }
 {
     let mut places: u64 = 0;
@@ -58,8 +58,8 @@ fn lacking(sets: &[u64; 1024], unused: u64, m: usize) -> u64
 }
 
 // How many atoms the shortest missing chain has, of a component of k atoms that lacks one.
-fn shortest(sets: &[u64; 1024], full: u64, k: usize) -> usize
-    requires { ⌜ full < 1024 ⌝ }
+fn shortest(sets: &[u64], full: u64, k: usize) -> usize
+    requires { ⌜ full < length (now sets) ⌝ }
     ensures { λ r. ⌜ Shortest (now (sets .entry)) full k r ⌝ }
 {
     let mut m = 1;
@@ -90,21 +90,20 @@ fn none() -> Start
 }
 
 // The start of the shortest missing chain of the component with these atoms, among equals that with the smallest first atom.
-fn component_start(rows: &[u64; 64], x: u64, q: &[u8]) -> Start
-    requires { ⌜ (length (listed x) ≤ 10) × (3 ≤ length (now q)) × (below 64 (drop 3 (now q)) ≡ true) ⌝ }
+fn component_start(table: &mut [u64], rows: &[u64; 64], x: u64, q: &[u8]) -> Start
+    requires { ⌜ Roomy (length (listed x)) (length (now table)) × (3 ≤ length (now q)) × (below 64 (drop 3 (now q)) ≡ true) ⌝ }
     ensures { λ r. ⌜ ComponentStart (now (rows .entry)) x (drop 3 (now (q .entry))) r ⌝ }
 {
     let list = list_set(x);
     let atoms = list.atoms;
     let k = list.t;
-    let mut sets = [0u64; 1024];
-    fill(&mut sets, rows, &atoms, k, q, 3);
+    fill(table, rows, &atoms, k, q, 3);
     let full = power(k) - 1;
-    if subset(full as u64, sets[full]) {
+    if subset(full as u64, table[full]) {
         return none();
     }
-    let length = shortest(&sets, full as u64, k);
-    let places = lacking(&sets, full as u64, length);
+    let length = shortest(table, full as u64, k);
+    let places = lacking(table, full as u64, length);
     let atom = wide(atoms[lowest(places)]);
     Start {
         length,
@@ -129,37 +128,41 @@ fn earlier(a: Start, b: Start) -> Start
     a
 }
 
-// Is there one atom at most, and does it stand in the sequence, the set of whose atoms is `entries`?
-fn found_alone(x: u64, entries: u64) -> bool
-    ensures { λ r. ⌜ FoundAlone x entries r ⌝ }
-{
-    if size(x) <= 1 {
-        return subset(x, entries);
-    }
-    false
-}
-
 // The earlier of a start and that of the component with these atoms; `entries` is the set of the sequence's atoms.
-fn improved(best: Start, rows: &[u64; 64], x: u64, q: &[u8], entries: u64) -> Start
-    requires { ⌜ FewAtoms best × (length (listed x) ≤ 10) × (3 ≤ length (now q)) × (below 64 (drop 3 (now q)) ≡ true) × Gathered (drop 3 (now q)) entries ⌝ }
+fn improved(
+    table: &mut [u64],
+    best: Start,
+    rows: &[u64; 64],
+    x: u64,
+    q: &[u8],
+    entries: u64,
+) -> Start
+    requires { ⌜ Roomy (length (listed x)) (length (now table)) × (3 ≤ length (now q)) × (below 64 (drop 3 (now q)) ≡ true) × Gathered (drop 3 (now q)) entries ⌝ }
     ensures { λ r. ⌜ Improved best (now (rows .entry)) x (drop 3 (now (q .entry))) r ⌝ }
 {
-    if found_alone(x, entries) {
+    // An atom alone has one chain, itself.
+    if size(x) <= 1 && subset(x, entries) {
         return best;
     }
-    earlier(best, component_start(rows, x, q))
+    earlier(best, component_start(table, rows, x, q))
 }
 
 // The start of the shortest missing chain, of a program of n atoms with its edges and the sets of its components.
-pub fn find_start<'a>(n: usize, rows: &'a [u64; 64], sets: &'a [u64; 64], q: &[u8]) -> Start
-    requires { ⌜ (n ≤ 64) × Small n (now sets) × (3 ≤ length (now q)) × (below n (drop 3 (now q)) ≡ true) ⌝ }
+pub fn find_start<'a>(
+    table: &mut [u64],
+    n: usize,
+    rows: &'a [u64; 64],
+    sets: &'a [u64; 64],
+    q: &[u8],
+) -> Start
+    requires { ⌜ (n ≤ 64) × Small n (now sets) (length (now table)) × (3 ≤ length (now q)) × (below n (drop 3 (now q)) ≡ true) ⌝ }
     ensures { λ r. ⌜ StartOf n (now (rows .entry)) (now (sets .entry)) (drop 3 (now (q .entry))) r ⌝ }
 {
     let entries = gather(&q[3..]);
     let mut best = none();
     let mut c = 0;
     while c < n {
-        best = improved(best, rows, sets[c], q, entries);
+        best = improved(table, best, rows, sets[c], q, entries);
         c += 1;
     }
     best
@@ -192,13 +195,14 @@ pub struct Extension {
 
 // The extension behind: of the unused places that follow, the first from which a chain of as many atoms as are left is missing.
 fn next_extension(
+    table: &mut [u64],
     rows: &[u64; 64],
     atoms: &[u8; 16],
     k: usize,
     q: &[u8],
     extension: Extension,
 ) -> Extension
-    requires { ⌜ (k ≤ 10) × Low (now atoms) k × RisesTo (now atoms) k × (below 64 (drop 3 (now q)) ≡ true) × Fits k (now q) extension × (1 < extension .left)
+    requires { ⌜ Roomy k (length (now table)) × Low (now atoms) k × RisesTo (now atoms) k × (below 64 (drop 3 (now q)) ≡ true) × Fits k (now q) extension × (1 < extension .left)
         × SomeLacks (now rows) (now atoms) k (now q) extension ⌝ }
     ensures { λ r. ⌜ Next (now (rows .entry)) (now (atoms .entry)) k (now (q .entry)) extension r ⌝ }
 {
@@ -207,10 +211,9 @@ fn next_extension(
     let from = behind(q, extension.from, x);
     let unused = without(extension.unused, last);
     let left = extension.left - 1;
-    let mut sets = [0u64; 1024];
-    fill(&mut sets, rows, atoms, k, q, from);
+    fill(table, rows, atoms, k, q, from);
     let after = followers(rows, atoms, k, x);
-    let place = lowest(intersection(after, lacking(&sets, unused, left)));
+    let place = lowest(intersection(after, lacking(table, unused, left)));
     Extension {
         from,
         unused,
@@ -223,13 +226,14 @@ fn next_extension(
 fn put_chain(
     out: &mut [u8],
     at: usize,
+    table: &mut [u64],
     rows: &[u64; 64],
     atoms: &[u8; 16],
     k: usize,
     q: &[u8],
     extension: Extension,
 ) -> usize
-    requires { ⌜ (at + extension .left ≤ length (now out)) × (k ≤ 10) × Low (now atoms) k × RisesTo (now atoms) k × (below 64 (drop 3 (now q)) ≡ true)
+    requires { ⌜ (at + extension .left ≤ length (now out)) × Roomy k (length (now table)) × Low (now atoms) k × RisesTo (now atoms) k × (below 64 (drop 3 (now q)) ≡ true)
         × Fits k (now q) extension × SomeLacks (now rows) (now atoms) k (now q) extension ⌝ }
     ensures { λ r. ⌜ ChainPut (now (rows .entry)) (now (atoms .entry)) k (now (q .entry)) extension (now (out .entry)) at (now (out .exit)) r ⌝ }
 {
@@ -238,13 +242,19 @@ fn put_chain(
     if extension.left <= 1 {
         return next;
     }
-    let onward = next_extension(rows, atoms, k, q, extension);
-    put_chain(out, next, rows, atoms, k, q, onward)
+    let onward = next_extension(table, rows, atoms, k, q, extension);
+    put_chain(out, next, table, rows, atoms, k, q, onward)
 }
 
 // Writes the shortest missing chain, which starts there, and answers its number of atoms.
-pub fn put_missing(out: &mut [u8], rows: &[u64; 64], q: &[u8], start: Start) -> usize
-    requires { ⌜ (start .length ≤ length (now out)) × FewAtoms start × (3 ≤ length (now q)) × (below 64 (drop 3 (now q)) ≡ true) × SomeMissing (now rows) (drop 3 (now q)) start ⌝ }
+pub fn put_missing(
+    out: &mut [u8],
+    table: &mut [u64],
+    rows: &[u64; 64],
+    q: &[u8],
+    start: Start,
+) -> usize
+    requires { ⌜ (start .length ≤ length (now out)) × Roomy (length (listed (start .set))) (length (now table)) × (3 ≤ length (now q)) × (below 64 (drop 3 (now q)) ≡ true) × SomeMissing (now rows) (drop 3 (now q)) start ⌝ }
     ensures { λ r. ⌜ MissingPut (now (rows .entry)) (drop 3 (now (q .entry))) start (now (out .entry)) (now (out .exit)) r ⌝ }
 {
     let list = list_set(start.set);
@@ -256,5 +266,5 @@ pub fn put_missing(out: &mut [u8], rows: &[u64; 64], q: &[u8], start: Start) -> 
         place: place_of(&atoms, k, start.atom),
         left: start.length,
     };
-    put_chain(out, 0, rows, &atoms, k, q, extension)
+    put_chain(out, 0, table, rows, &atoms, k, q, extension)
 }

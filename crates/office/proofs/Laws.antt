@@ -1,7 +1,7 @@
 -- The office's limits suit the operations.
 use mathlib.Core.List.{List}
 use mathlib.Core.Path.{_≡_}
-use Prim.Native.Nat.{ℕ, _≤_}
+use Prim.Native.Nat.{ℕ, _^_, _≤_}
 use lib.Dec.{lit<, lit≤}
 use lib.ListN.{length}
 use Rattle.sheet.specs.declared.Limits.{Limits}
@@ -10,19 +10,32 @@ use Rattle.core.specs.Outputs.{lparseOutput, missingOutput}
 use Rattle.core.specs.Questions.{readQuestions}
 use Rattle.core.specs.Calls.{Promised}
 use Rattle.core.specs.Demands.{Demand1, Demand2, Demand3, TextForSolvers, MissingChains, DefaultAccepted}
+use Rattle.core.specs.Services.{WholeFormat, NeverTooLarge}
 use Rattle.core.specs.Claims.{Shorter}
 use Rattle.core.proofs.Calls.{demand-1}
 use Rattle.core.proofs.Default.{default-accepted}
 use Rattle.core.proofs.Demands.{demand-2, demand-3, text-for-solvers, missing-chains}
+use Rattle.core.proofs.Services.{never-too-large}
 use Rattle.core.proofs.Claims.{outputs-shorten, lparse-fits, missing-fits}
 use Rattle.office.specs.Office.{office}
 
 pub supported : (L : Limits) → L ≡ office → Supported L
 supported L e = rw e (record { atoms = lit≤ tt; records = lit≤ tt; component = lit≤ tt; entries = lit≤ tt })
 
--- What the office's default sequence writes is accepted by questions 8 and 9.
+-- A table of 1,024 rows has one for each set of a component's atoms.
+pub table-room : (L : Limits) (rows : ℕ) → L ≡ office → rows ≡ 1024 → 2 ^ L .taken .component ≤ rows
+table-room L rows e f = rw (e, f) (lit≤ tt)
+
+-- The office takes all that the format allows, so that it never refuses by 15 or by 16.
+pub office-whole : WholeFormat office
+office-whole = record { atoms = lit≤ tt; component = lit≤ tt; entries = lit≤ tt }
+
+pub office-never-too-large : NeverTooLarge (Promised office)
+office-never-too-large = never-too-large office office-whole (Promised office) (demand-1 office)
+
+-- What the office's default sequence writes is accepted by questions 8, 16 and 9.
 pub office-default-accepted : DefaultAccepted office
-office-default-accepted = default-accepted office (lit≤ tt) (lit< tt)
+office-default-accepted = default-accepted office (lit≤ tt) (lit≤ tt) (lit< tt)
 
 -- The three demands of the office's operations.
 pub office-demand-1 : Demand1 office (Promised office)

@@ -7,6 +7,7 @@ use core::ReadAnswer;
 use core::TestAnswer;
 use core::WriteAnswer;
 use sheet::Limits;
+use sheet::Taken;
 ghost use denote.Ref.{ptr};
 ghost use mathlib.Core.Path.{_≡_};
 ghost use Rattle.core.specs.Promises.{ReadPromise, BodyPromise, SlicePromise, FindPromise, ComponentsPromise, DefaultPromise, LparsePromise};
@@ -16,11 +17,17 @@ ghost use Rattle.office.specs.Office.{office};
 fn limits() -> Limits
     ensures { λ r. ⌜ r ≡ office ⌝ }
 {
+    let taken = Taken {
+        atoms: 64,
+        component: 10,
+        entries: 640,
+    };
     Limits {
         atoms: 64,
         records: 128,
         component: 10,
         entries: 640,
+        taken,
     }
 }
 
@@ -84,26 +91,30 @@ pub fn count(s: &[u8]) -> CountAnswer
 pub fn test(s: &[u8], q: &[u8]) -> TestAnswer
     ensures { λ r. ⌜ TestPromise office (now (s .entry)) (now (q .entry)) r ⌝ }
 {
-    core::test(limits(), s, q)
+    let mut table = [0u64; 1024];
+    core::test(limits(), s, q, &mut table)
 }
 
 // Finding the missing chain: the refusal, or its number of atoms.
 pub fn missing(s: &[u8], q: &[u8], out: &mut [u8]) -> WriteAnswer
     ensures { λ r. ⌜ MissingPromise office (now (s .entry)) (now (q .entry)) (now (out .entry)) (now (out .exit)) r ⌝ }
 {
-    core::missing(limits(), s, q, out)
+    let mut table = [0u64; 1024];
+    core::missing(limits(), s, q, out, &mut table)
 }
 
 // Writing the unfolded program: the refusal, or the number of words.
 pub fn unfolded(s: &[u8], q: &[u8], out: &mut [u32]) -> WriteAnswer
     ensures { λ r. ⌜ UnfoldedPromise office (now (s .entry)) (now (q .entry)) (now (out .entry)) (now (out .exit)) r ⌝ }
 {
-    core::unfolded(limits(), s, q, out)
+    let mut table = [0u64; 1024];
+    core::unfolded(limits(), s, q, out, &mut table)
 }
 
 // Writing clauses: the refusal, or the numbers of words, of variables and of clauses.
 pub fn clauses(s: &[u8], q: &[u8], out: &mut [i32]) -> ClausesAnswer
     ensures { λ r. ⌜ ClausesPromise office (now (s .entry)) (now (q .entry)) (now (out .entry)) (now (out .exit)) r ⌝ }
 {
-    core::clauses(limits(), s, q, out)
+    let mut table = [0u64; 1024];
+    core::clauses(limits(), s, q, out, &mut table)
 }

@@ -8,12 +8,21 @@ ghost use Rattle.sheet.specs.inner.Walk.{Complete, Walk, Stepped};
 ghost use Rattle.sheet.specs.Sequence.{entries, sequenceFits};
 ghost use Rattle.lists.specs.Lists.{below};
 
-// What a service takes: the most atoms and records of a sheet, atoms of a component, and entries of a sequence.
+// What a service takes: the most atoms of a sheet, fresh ones counted, atoms of a component, and entries of a sequence.
+pub struct Taken {
+    pub atoms: usize,
+    pub component: usize,
+    pub entries: usize,
+}
+
+// The limits of the format: the most atoms, written ones and with the fresh ones, and records of a sheet, atoms of a component, and entries of a sequence; and what the service
+// takes of these.
 pub struct Limits {
     pub atoms: usize,
     pub records: usize,
     pub component: usize,
     pub entries: usize,
+    pub taken: Taken,
 }
 
 // Question 5.

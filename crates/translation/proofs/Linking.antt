@@ -108,13 +108,14 @@ pub record Linking (n : ℕ) (t : Records) (j : ℕ) (rows : List ℕ) (fresh : 
   pub bits : (a b : ℕ) → a < 64 → (leads (rulesOf fresh (recordsFrom t j)) a b || has (getD rows a 0) b) ≡ leads (rulesOf n (recordsIn t)) a b
 
 module _ (n : ℕ) (t : Records) where
-  pub linking-start : Linking n t 0 (replicate 64 0) n
-  linking-start =
-      record {
+  pub linking-start : (rows : List ℕ) → rows ≡ replicate 64 0 → Linking n t 0 rows n
+  linking-start rows e =
+      rw e
+      (record {
         long = length-replicate {A = ℕ} 64 0;
         number = numbering-start n t;
         bits = λ a b l. rw (getD-replicate {A = ℕ} 64 a 0 0 l, zero-has b) (or-false (leads (rulesOf n (recordsFrom t 0)) a b) ∙ ap (λ rs. leads (rulesOf n rs) a b) (records-all t));
-      }
+      })
 
   module _ (j : ℕ) (rows : List ℕ) (fresh : ℕ) (L : Linking n t j rows fresh) where
     module _ (l : j < t .count) (r : SheetRecord) (R : RecordAt (t .kinds) (t .heads) (t .pos) (t .neg) j r) where

@@ -2,18 +2,17 @@
 use bits::has;
 use bits::union;
 use bits::wide;
-use program::ProgramTable;
+use program::ProgramSize;
 ghost use mathlib.Core.Bool.{cond};
 ghost use mathlib.Core.Path.{_≡_};
-ghost use mathlib.Core.List.{[], _∷_};
 ghost use Prim.Native.Nat.{suc, _≤_, _<_};
 ghost use lib.Dec.{eqb};
-ghost use lib.ListN.{length};
-ghost use Rattle.program.specs.inner.Held.{ruleOf};
+ghost use lib.ListN.{length, replicate};
+ghost use Rattle.program.specs.inner.Held.{Sources, tableOf};
 ghost use Rattle.sheet.specs.Sheet.{recordRules};
 ghost use Rattle.translation.specs.inner.Records.{table, recordIn, recordsIn, RecordAt, ChoicesIn, Expandable, FreshFor};
 ghost use Rattle.translation.specs.inner.Linked.{Linked, RecordLinked, EdgesIn};
-ghost use Rattle.translation.specs.inner.Translated.{entries, Room, Appended, AddedTo, constraintOf, Translated};
+ghost use Rattle.translation.specs.inner.Translated.{entries, Room, Appended, Entered, AddedTo, constraintOf, Translated};
 
 // The number that comes behind a record of this kind, where each choice rule takes one.
 fn next_fresh(kind: usize, fresh: usize) -> usize
@@ -94,12 +93,7 @@ fn link_record(rows: &mut [u64; 64], r: SheetRecord, fresh: usize) -> usize
     fresh
 }
 
-// The edges of a program, in rows.
-pub struct Edges {
-    pub rows: [u64; 64],
-}
-
-// The edges of the program of the first m records over n written atoms.
+// The edges of the program of the first m records over n written atoms, put into rows that are empty.
 pub fn edges_of<'a>(
     n: usize,
     m: usize,
@@ -107,19 +101,18 @@ pub fn edges_of<'a>(
     heads: &'a [u8; 128],
     pos: &'a [u64; 128],
     neg: &'a [u64; 128],
-) -> Edges
-    requires { ⌜ Expandable n (table m (now kinds) (now heads) (now pos) (now neg)) ⌝ }
-    ensures { λ r. ⌜ EdgesIn n (table m (now (kinds .entry)) (now (heads .entry)) (now (pos .entry)) (now (neg .entry))) (r .rows) ⌝ }
+    rows: &mut [u64; 64],
+)
+    requires { ⌜ Expandable n (table m (now kinds) (now heads) (now pos) (now neg)) × (now rows ≡ replicate 64 0) ⌝ }
+    ensures { λ r. ⌜ EdgesIn n (table m (now (kinds .entry)) (now (heads .entry)) (now (pos .entry)) (now (neg .entry))) (now (rows .exit)) ⌝ }
 {
-    let mut rows = [0u64; 64];
     let mut fresh = n;
     let mut j = 0;
     while j < m {
         let r = record_at(kinds, heads, pos, neg, j);
-        fresh = link_record(&mut rows, r, fresh);
+        fresh = link_record(rows, r, fresh);
         j += 1;
     }
-    Edges { rows }
 }
 
 // What is entered for an atom that is added to negative ones: nothing, where it is among them already.
@@ -137,7 +130,7 @@ fn added_atom(neg: u64, a: usize) -> u8
 pub struct TableEntry {
     pub head: u8,
     pub pos: u64,
-    pub neg: u64,
+    pub source: u8,
     pub added: u8,
 }
 
@@ -145,134 +138,136 @@ pub struct TableEntry {
 fn store(
     heads: &mut [u8; 192],
     pos: &mut [u64; 192],
-    neg: &mut [u64; 192],
+    sources: &mut [u8; 192],
     added: &mut [u8; 192],
     k: usize,
     e: TableEntry,
 ) -> usize
-    requires { ⌜ Room 1 (entries k (now heads) (now pos) (now neg) (now added)) ⌝ }
-    ensures { λ r. ⌜ Appended (entries k (now (heads .entry)) (now (pos .entry)) (now (neg .entry)) (now (added .entry)))
-        (ruleOf (e .head) (e .pos) (e .neg) (e .added) ∷ [])
-        (entries r (now (heads .exit)) (now (pos .exit)) (now (neg .exit)) (now (added .exit))) ⌝ }
+    requires { ⌜ Room 1 (entries k (now heads) (now pos) (now sources) (now added)) × (e .source < 128) ⌝ }
+    ensures { λ r. ⌜ Entered (entries k (now (heads .entry)) (now (pos .entry)) (now (sources .entry)) (now (added .entry))) e
+        (entries r (now (heads .exit)) (now (pos .exit)) (now (sources .exit)) (now (added .exit))) ⌝ }
 {
     heads[k] = e.head;
     pos[k] = e.pos;
-    neg[k] = e.neg;
+    sources[k] = e.source;
     added[k] = e.added;
     k + 1
 }
 
-// Stores the rules of a record from k on; the index that comes next.
+// Stores the rules of a record from k on, with the source of its negative atoms; the index that comes next.
 fn store_rules(
     heads: &mut [u8; 192],
     pos: &mut [u64; 192],
-    neg: &mut [u64; 192],
+    sources: &mut [u8; 192],
     added: &mut [u8; 192],
     k: usize,
     r: SheetRecord,
+    source: u8,
     fresh: usize,
 ) -> usize
-    requires { ⌜ Room (length (recordRules fresh (recordIn r))) (entries k (now heads) (now pos) (now neg) (now added)) × FreshFor r fresh ⌝ }
-    ensures { λ next. ⌜ Appended (entries k (now (heads .entry)) (now (pos .entry)) (now (neg .entry)) (now (added .entry)))
+    requires { ⌜ Room (length (recordRules fresh (recordIn r))) (entries k (now heads) (now pos) (now sources) (now added))
+        × FreshFor r fresh × (source < 128) ⌝ }
+    ensures { λ next. ⌜ Appended source (r .neg) (entries k (now (heads .entry)) (now (pos .entry)) (now (sources .entry)) (now (added .entry)))
         (recordRules fresh (recordIn r))
-        (entries next (now (heads .exit)) (now (pos .exit)) (now (neg .exit)) (now (added .exit))) ⌝ }
+        (entries next (now (heads .exit)) (now (pos .exit)) (now (sources .exit)) (now (added .exit))) ⌝ }
 {
     let kind = wide(r.kind);
     if kind == 0 {
         let rule = TableEntry {
             head: r.head,
             pos: r.pos,
-            neg: r.neg,
+            source,
             added: 0,
         };
-        return store(heads, pos, neg, added, k, rule);
+        return store(heads, pos, sources, added, k, rule);
     }
     if kind == 2 {
         let head = wide(r.head);
         let chosen = TableEntry {
             head: r.head,
             pos: r.pos,
-            neg: r.neg,
+            source,
             added: added_atom(r.neg, fresh),
         };
-        let second = store(heads, pos, neg, added, k, chosen);
+        let second = store(heads, pos, sources, added, k, chosen);
         let other = TableEntry {
             head: (fresh % 256) as u8,
             pos: r.pos,
-            neg: r.neg,
+            source,
             added: added_atom(r.neg, head),
         };
-        return store(heads, pos, neg, added, second, other);
+        return store(heads, pos, sources, added, second, other);
     }
     k
 }
 
-// Stores a record at k, where it is a constraint; the index that comes next.
+// Stores a record at k, where it is a constraint, with the source of its negative atoms; the index that comes next.
 fn store_constraint(
     heads: &mut [u8; 192],
     pos: &mut [u64; 192],
-    neg: &mut [u64; 192],
+    sources: &mut [u8; 192],
     added: &mut [u8; 192],
     k: usize,
     r: SheetRecord,
+    source: u8,
 ) -> usize
-    requires { ⌜ Room (length (constraintOf (recordIn r))) (entries k (now heads) (now pos) (now neg) (now added)) ⌝ }
-    ensures { λ next. ⌜ Appended (entries k (now (heads .entry)) (now (pos .entry)) (now (neg .entry)) (now (added .entry)))
+    requires { ⌜ Room (length (constraintOf (recordIn r))) (entries k (now heads) (now pos) (now sources) (now added)) × (source < 128) ⌝ }
+    ensures { λ next. ⌜ Appended source (r .neg) (entries k (now (heads .entry)) (now (pos .entry)) (now (sources .entry)) (now (added .entry)))
         (constraintOf (recordIn r))
-        (entries next (now (heads .exit)) (now (pos .exit)) (now (neg .exit)) (now (added .exit))) ⌝ }
+        (entries next (now (heads .exit)) (now (pos .exit)) (now (sources .exit)) (now (added .exit))) ⌝ }
 {
     if wide(r.kind) == 1 {
         let body = TableEntry {
             head: r.head,
             pos: r.pos,
-            neg: r.neg,
+            source,
             added: 0,
         };
-        return store(heads, pos, neg, added, k, body);
+        return store(heads, pos, sources, added, k, body);
     }
     k
 }
 
-// The program of the first m records over n written atoms: the rules of each record in its place, and behind them the constraints.
+// The program of the first m records over n written atoms: the rules of each record in its place, and behind them the constraints. The
+// source of an entry is the record that it comes from.
 pub fn program_of<'a>(
     n: usize,
     m: usize,
     kinds: &'a [u8; 128],
     record_heads: &'a [u8; 128],
     record_pos: &'a [u64; 128],
-    record_neg: &'a [u64; 128],
-) -> ProgramTable
-    requires { ⌜ Expandable n (table m (now kinds) (now record_heads) (now record_pos) (now record_neg)) ⌝ }
+    neg: &'a [u64; 128],
+    heads: &mut [u8; 192],
+    pos: &mut [u64; 192],
+    sources: &mut [u8; 192],
+    added: &mut [u8; 192],
+) -> ProgramSize
+    requires { ⌜ Expandable n (table m (now kinds) (now record_heads) (now record_pos) (now neg))
+        × Room 0 (entries 0 (now heads) (now pos) (now sources) (now added)) ⌝ }
     ensures { λ r. ⌜ Translated n
-        (recordsIn (table m (now (kinds .entry)) (now (record_heads .entry)) (now (record_pos .entry)) (now (record_neg .entry)))) r ⌝ }
+        (recordsIn (table m (now (kinds .entry)) (now (record_heads .entry)) (now (record_pos .entry)) (now (neg .entry))))
+        (tableOf r (now (heads .exit)) (now (pos .exit)) (now (sources .exit)) (now (neg .entry)) (now (added .exit)))
+        × Sources (now (sources .exit)) ⌝ }
 {
-    let mut heads = [0u8; 192];
-    let mut pos = [0u64; 192];
-    let mut neg = [0u64; 192];
-    let mut added = [0u8; 192];
     let mut fresh = n;
     let mut rules = 0;
     let mut j = 0;
     while j < m {
-        let r = record_at(kinds, record_heads, record_pos, record_neg, j);
-        rules = store_rules(&mut heads, &mut pos, &mut neg, &mut added, rules, r, fresh);
+        let r = record_at(kinds, record_heads, record_pos, neg, j);
+        rules = store_rules(heads, pos, sources, added, rules, r, j as u8, fresh);
         fresh = next_fresh(wide(r.kind), fresh);
         j += 1;
     }
     let mut all = rules;
     let mut i = 0;
     while i < m {
-        let r = record_at(kinds, record_heads, record_pos, record_neg, i);
-        all = store_constraint(&mut heads, &mut pos, &mut neg, &mut added, all, r);
+        let r = record_at(kinds, record_heads, record_pos, neg, i);
+        all = store_constraint(heads, pos, sources, added, all, r, i as u8);
         i += 1;
     }
-    ProgramTable {
+    ProgramSize {
         atoms: fresh,
         rules,
         constraints: all - rules,
-        heads,
-        pos,
-        neg,
-        added,
     }
 }

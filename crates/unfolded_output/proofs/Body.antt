@@ -20,7 +20,6 @@ use Rattle.copies.specs.inner.Tables.{Values}
 use Rattle.copies.specs.inner.Bodies.{bodyBy, entryBody, bodiesBy, negativeAtoms, bodyAtoms}
 use Rattle.copies.specs.inner.Kept.{ListedAt}
 use Rattle.copies.proofs.Tables.{listed-last}
-use Rattle.copies.specs.declared.KeptRules.{KeptRules}
 use Rattle.unfolded_output.specs.inner.Words.{eightWords, bodiesWords, setBodyWords, listedWords, entriesWords, keptWords, SetWrote, AddedWrote}
 
 -- The variables of a set's atoms.
@@ -189,16 +188,16 @@ module _ (pos neg added vars entries old : List ℕ) (at k : ℕ) where
   listed-start = range-start f old at 0 k
 
   module _ (cur : List ℕ) (next j : ℕ) (L : ListedLeft pos neg added vars entries old at k cur next j) where
-    module _ (lt : j < k) (i : ℕ) (I : ListedAt entries j i) where
-      pub listed-room : at + length (listedWords pos neg added vars entries k) ≤ length old → next + 2 + bodyAtoms (getD pos i 0) (getD neg i 0) (getD added i 0) ≤ length cur
+    module _ (lt : j < k) (i n : ℕ) (I : ListedAt entries j i) (d : n ≡ getD neg i 0) where
+      pub listed-room : at + length (listedWords pos neg added vars entries k) ≤ length old → next + 2 + bodyAtoms (getD pos i 0) n (getD added i 0) ≤ length cur
       listed-room h =
-          subst (λ x. next + 2 + bodyAtoms (getD pos x 0) (getD neg x 0) (getD added x 0) ≤ length cur) (sym (I .is))
+          rw d (subst (λ x. next + 2 + bodyAtoms (getD pos x 0) (getD neg x 0) (getD added x 0) ≤ length cur) (sym (I .is))
           (let r = range-room f old at 0 k cur next j L lt (subst (λ ws. at + length ws ≤ length old) (sym listed-are) h) in
           let s = body-size vars (getD pos (getD entries j 0) 0) (getD neg (getD entries j 0) 0) (getD added (getD entries j 0) 0) in
-          omega arith)
+          omega arith))
 
-      pub listed-turn : (new : List ℕ) (behind : ℕ) → Wrote cur next (setBodyWords vars (getD pos i 0) (getD neg i 0) (getD added i 0)) new behind → ListedLeft pos neg added vars entries old at k new behind (j + 1)
-      listed-turn new behind W = range-turn f old at 0 k cur next j L lt new behind (subst (λ x. Wrote cur next (entryWords pos neg added vars x) new behind) (I .is) W)
+      pub listed-turn : (new : List ℕ) (behind : ℕ) → Wrote cur next (setBodyWords vars (getD pos i 0) n (getD added i 0)) new behind → ListedLeft pos neg added vars entries old at k new behind (j + 1)
+      listed-turn new behind W = range-turn f old at 0 k cur next j L lt new behind (subst (λ x. Wrote cur next (entryWords pos neg added vars x) new behind) (I .is) (subst (λ x. Wrote cur next (setBodyWords vars (getD pos i 0) x (getD added i 0)) new behind) d W))
 
     pub listed-length : length cur ≡ length old
     listed-length = range-length f old at 0 k cur next j L
@@ -219,15 +218,15 @@ module _ (pos neg added vars old : List ℕ) (at from to : ℕ) where
   entries-start = range-start (entryWords pos neg added vars) old at from to
 
   module _ (cur : List ℕ) (next j : ℕ) (L : EntriesLeft pos neg added vars old at from to cur next j) where
-    module _ (lt : j < to) where
-      pub entries-room : at + length (entriesWords pos neg added vars from to) ≤ length old → next + 2 + bodyAtoms (getD pos j 0) (getD neg j 0) (getD added j 0) ≤ length cur
+    module _ (lt : j < to) (n : ℕ) (d : n ≡ getD neg j 0) where
+      pub entries-room : at + length (entriesWords pos neg added vars from to) ≤ length old → next + 2 + bodyAtoms (getD pos j 0) n (getD added j 0) ≤ length cur
       entries-room h =
           let r = range-room (entryWords pos neg added vars) old at from to cur next j L lt (subst (λ ws. at + length ws ≤ length old) (sym entries-are) h) in
           let s = body-size vars (getD pos j 0) (getD neg j 0) (getD added j 0) in
-          omega arith
+          rw d (omega arith)
 
-      pub entries-turn : (new : List ℕ) (behind : ℕ) → Wrote cur next (setBodyWords vars (getD pos j 0) (getD neg j 0) (getD added j 0)) new behind → EntriesLeft pos neg added vars old at from to new behind (j + 1)
-      entries-turn new behind W = range-turn (entryWords pos neg added vars) old at from to cur next j L lt new behind W
+      pub entries-turn : (new : List ℕ) (behind : ℕ) → Wrote cur next (setBodyWords vars (getD pos j 0) n (getD added j 0)) new behind → EntriesLeft pos neg added vars old at from to new behind (j + 1)
+      entries-turn new behind W = range-turn (entryWords pos neg added vars) old at from to cur next j L lt new behind (subst (λ x. Wrote cur next (setBodyWords vars (getD pos j 0) x (getD added j 0)) new behind) d W)
 
     pub entries-length : length cur ≡ length old
     entries-length = range-length (entryWords pos neg added vars) old at from to cur next j L
@@ -236,12 +235,12 @@ module _ (pos neg added vars old : List ℕ) (at from to : ℕ) where
     entries-end l = subst (λ ws. Wrote old at ws cur next) entries-are (range-end (entryWords pos neg added vars) old at from to cur next j L l)
 
 -- A copy.
-module _ (pos neg added vars : List ℕ) (var : ℕ) (kept : KeptRules) (at : ℕ) where
-  module _ (old o₁ o₂ : List ℕ) (second next : ℕ) (W₁ : Wrote old at (var ∷ []) o₁ second) (W₂ : Wrote o₁ second (kept .rules ∷ []) o₂ next) where
-    pub copy-room : at + length (keptWords pos neg added vars var kept) ≤ length old → next + length (listedWords pos neg added vars (kept .entries) (kept .rules)) ≤ length o₂
+module _ (pos neg added vars : List ℕ) (var : ℕ) (entries : List ℕ) (k at : ℕ) where
+  module _ (old o₁ o₂ : List ℕ) (second next : ℕ) (W₁ : Wrote old at (var ∷ []) o₁ second) (W₂ : Wrote o₁ second (k ∷ []) o₂ next) where
+    pub copy-room : at + length (keptWords pos neg added vars var entries k) ≤ length old → next + length (listedWords pos neg added vars entries k) ≤ length o₂
     unfolding keptWords
-    copy-room h = let m = W₁ .moved in let k = W₂ .moved in let n = wrote-length _ _ _ _ _ W₁ in let l = wrote-length _ _ _ _ _ W₂ in omega arith
+    copy-room h = let m₁ = W₁ .moved in let m₂ = W₂ .moved in let n₁ = wrote-length _ _ _ _ _ W₁ in let n₂ = wrote-length _ _ _ _ _ W₂ in omega arith
 
-    pub copy-wrote : (new : List ℕ) (r : ℕ) → Wrote o₂ next (listedWords pos neg added vars (kept .entries) (kept .rules)) new r → Wrote old at (keptWords pos neg added vars var kept) new r
+    pub copy-wrote : (new : List ℕ) (r : ℕ) → Wrote o₂ next (listedWords pos neg added vars entries k) new r → Wrote old at (keptWords pos neg added vars var entries k) new r
     unfolding keptWords
     copy-wrote new r W₃ = wrote-append _ _ _ _ _ _ _ _ W₁ (wrote-append _ _ _ _ _ _ _ _ W₂ W₃)

@@ -6,7 +6,7 @@ use native.Mathlib.Omega.{arith}
 use lib.ListN.{length, length-append}
 use Rattle.asp.specs.Program.{Body}
 use Rattle.unfolding.specs.Unfolded.{Copy, Unfolded, bodyWords, copyWords, words}
-use Rattle.program.specs.declared.ProgramTable.{ProgramTable}
+use Rattle.program.specs.inner.Held.{ProgramTable}
 use Rattle.copies.specs.inner.Bodies.{atomCount}
 use Rattle.copies.specs.inner.Ready.{Ready, unfoldedIn}
 use Rattle.copies.specs.inner.Totals.{keptBodies, TotalsOf}

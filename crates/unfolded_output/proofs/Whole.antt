@@ -5,7 +5,7 @@ use Prim.Native.Nat.{ℕ, _+_, _-_, _≤_, _<_}
 use native.Mathlib.Omega.{arith}
 use lib.ListN.{length, length-append, set, replicate}
 use Rattle.unfolding.specs.Unfolded.{Copy, last, bodyWords, copyWords, words}
-use Rattle.program.specs.declared.ProgramTable.{ProgramTable}
+use Rattle.program.specs.inner.Held.{ProgramTable}
 use Rattle.writer.specs.inner.Wrote.{Wrote}
 use Rattle.writer.proofs.Writing.{Left, left-start, left-turn, left-end, left-length, left-room, wrote-append, wrote-length}
 use Rattle.copies.specs.inner.Tables.{Values, Overlaid}
@@ -14,7 +14,6 @@ use Rattle.copies.specs.inner.Made.{EntryAt, Made}
 use Rattle.copies.specs.inner.Kept.{Marked, Kept}
 use Rattle.copies.specs.inner.Ready.{Ready, unfoldedIn}
 use Rattle.copies.specs.declared.EntryCopy.{EntryCopy}
-use Rattle.copies.specs.declared.KeptRules.{KeptRules}
 use Rattle.copies.proofs.Keeping.{bodies-number}
 use Rattle.copies.proofs.Emitting.{Emitting, emitting-start, emitting-end, emitting-entry, emitting-fresh, emitting-here, emitting-turn}
 use Rattle.copies.proofs.Sizes.{copies-number, constraints-by-last, constraints-number}
@@ -54,28 +53,28 @@ module _ (t : ProgramTable) (names sets q : List ℕ) (R : Ready t names sets q)
       pub copies-fresh : fresh < 4294967295
       copies-fresh = emitting-fresh t names sets q R i keeping latest fresh Rest E within
 
-      module _ (c : EntryCopy) (M : Made q i names sets fresh c) (k : KeptRules) (K : Kept (t .heads) (t .pos) (t .rules) (c .atom) (c .component) keeping k)
+      module _ (c : EntryCopy) (M : Made q i names sets fresh c) (list : List ℕ) (k : ℕ) (K : Kept (t .heads) (t .pos) (t .rules) (c .atom) (c .component) keeping list k)
           (lasts vars : List ℕ) (F : Values last lasts) (O : Overlaid (c .component) latest lasts vars) where
         abbrev copy : Copy
-        copy = record { atom = c .atom; var = c .var; kept = bodiesBy (t .pos) (t .neg) (t .added) vars (k .entries) (k .rules) }
+        copy = record { atom = c .atom; var = c .var; kept = bodiesBy (t .pos) (t .neg) (t .added) vars list k }
 
         abbrev here : List ℕ
-        here = keptWords (t .pos) (t .neg) (t .added) vars (c .var) k
+        here = keptWords (t .pos) (t .neg) (t .added) vars (c .var) list k
 
         step : (cs : List Copy) → flatMap copyWords (copy ∷ cs) ≡ here ++ flatMap copyWords cs
         unfolding flatMap copyWords keptWords listedWords bodiesWords
         step cs =
-            ap (λ n. (c .var ∷ n ∷ listedWords (t .pos) (t .neg) (t .added) vars (k .entries) (k .rules)) ++ flatMap copyWords cs) (bodies-number (t .pos) (t .neg) (t .added) vars (k .entries) (k .rules))
+            ap (λ n. (c .var ∷ n ∷ listedWords (t .pos) (t .neg) (t .added) vars list k) ++ flatMap copyWords cs) (bodies-number (t .pos) (t .neg) (t .added) vars list k)
 
-        pub copies-room : at + length (copiesWords (unfoldedIn t q)) ≤ length old → next + length (keptWords (t .pos) (t .neg) (t .added) vars (c .var) k) ≤ length cur
+        pub copies-room : at + length (copiesWords (unfoldedIn t q)) ≤ length old → next + length (keptWords (t .pos) (t .neg) (t .added) vars (c .var) list k) ≤ length cur
         copies-room h =
-            let S = emitting-here t names sets q R i keeping latest fresh Rest E within c M k K lasts vars F O in
+            let S = emitting-here t names sets q R i keeping latest fresh Rest E within c M list k K lasts vars F O in
             left-room old at (total t q old at) cur here _ _ next (S .holds .rest) (step (S .copies)) h
 
-        pub copies-turn : (marked : ℕ) → Marked keeping (c .atom) (k .rules) marked → (new : List ℕ) (behind : ℕ) → Wrote cur next (keptWords (t .pos) (t .neg) (t .added) vars (c .var) k) new behind
+        pub copies-turn : (marked : ℕ) → Marked keeping (c .atom) k marked → (new : List ℕ) (behind : ℕ) → Wrote cur next (keptWords (t .pos) (t .neg) (t .added) vars (c .var) list k) new behind
             → CopiesWritten t q old at (i + 1) marked (set latest (c .atom) (c .var)) (c .fresh) new behind
         copies-turn marked W new behind U =
-            emitting-turn t names sets q R i keeping latest fresh Rest E within c M k K lasts vars F O marked (WordsLeft old at (total t q old at) new behind) W
+            emitting-turn t names sets q R i keeping latest fresh Rest E within c M list k K lasts vars F O marked (WordsLeft old at (total t q old at) new behind) W
             (λ cs L. record { rest = left-turn old at (total t q old at) cur new here _ _ next behind (L .rest) (step cs) U })
 
 -- The whole.

@@ -4,7 +4,6 @@ use bits::lowest;
 use bits::rest;
 use bits::size;
 use bits::without_eight;
-use copies::KeptRules;
 use copies::copy_at;
 use copies::entry_at;
 use copies::kept_rules;
@@ -14,14 +13,15 @@ use copies::mark;
 use copies::negative_atoms;
 use copies::overlay;
 use copies::totals_of;
-use program::ProgramTable;
+use program::ProgramSize;
+use program::negative_at;
 use writer::put_word;
 ghost use mathlib.Core.Path.{_≡_};
 ghost use Prim.Native.Nat.{_+_, _≤_, _<_};
 ghost use lib.ListN.{length};
 ghost use Rattle.unfolding.specs.Unfolded.{last, words};
 ghost use Rattle.bits.specs.inner.Visited.{listed};
-ghost use Rattle.program.specs.inner.Held.{addedAtom};
+ghost use Rattle.program.specs.inner.Held.{addedAtom, Sources, gathered, tableOf};
 ghost use Rattle.writer.specs.inner.Wrote.{Wrote};
 ghost use Rattle.copies.specs.inner.Tables.{Values};
 ghost use Rattle.copies.specs.inner.Bodies.{bodyAtoms};
@@ -127,81 +127,113 @@ fn put_listed<'a>(
     entries: &[u8; 192],
     k: usize,
     pos: &'a [u64; 192],
-    neg: &'a [u64; 192],
+    sources: &'a [u8; 192],
+    neg: &'a [u64; 128],
     added: &'a [u8; 192],
     vars: &[u32; 64],
     lasts: &[u32; 64],
 ) -> usize
-    requires { ⌜ Values last (now lasts) × Inside (now entries) k
-        × (at + length (listedWords (now pos) (now neg) (now added) (now vars) (now entries) k) ≤ length (now out)) ⌝ }
+    requires { ⌜ Sources (now sources) × Values last (now lasts) × Inside (now entries) k
+        × (at + length (listedWords (now pos) (gathered (now sources) (now neg)) (now added) (now vars) (now entries) k) ≤ length (now out)) ⌝ }
     ensures { λ r. ⌜ Wrote (now (out .entry)) at
-        (listedWords (now (pos .entry)) (now (neg .entry)) (now (added .entry)) (now (vars .entry)) (now (entries .entry)) k) (now (out .exit)) r ⌝ }
+        (listedWords (now (pos .entry)) (gathered (now (sources .entry)) (now (neg .entry))) (now (added .entry)) (now (vars .entry)) (now (entries .entry)) k)
+        (now (out .exit)) r ⌝ }
 {
     let mut next = at;
     let mut j = 0;
     while j < k {
         let i = entry_at(entries, k, j);
-        next = put_body(out, next, pos[i], neg[i], added[i], vars, lasts);
+        let set = negative_at(sources, neg, i);
+        next = put_body(out, next, pos[i], set, added[i], vars, lasts);
         j += 1;
     }
     next
 }
 
-// A copy: its variable, the number of rules kept, and those.
+// A copy: its variable, the number k of the rules kept, and those.
 fn put_copy<'a>(
     out: &mut [u32],
     at: usize,
     var: u32,
-    kept: KeptRules,
+    entries: &[u8; 192],
+    k: usize,
     pos: &'a [u64; 192],
-    neg: &'a [u64; 192],
+    sources: &'a [u8; 192],
+    neg: &'a [u64; 128],
     added: &'a [u8; 192],
     vars: &[u32; 64],
     lasts: &[u32; 64],
 ) -> usize
-    requires { ⌜ Values last (now lasts) × Inside (kept .entries) (kept .rules)
-        × (at + length (keptWords (now pos) (now neg) (now added) (now vars) var kept) ≤ length (now out)) ⌝ }
+    requires { ⌜ Sources (now sources) × Values last (now lasts) × Inside (now entries) k
+        × (at + length (keptWords (now pos) (gathered (now sources) (now neg)) (now added) (now vars) var (now entries) k) ≤ length (now out)) ⌝ }
     ensures { λ r. ⌜ Wrote (now (out .entry)) at
-        (keptWords (now (pos .entry)) (now (neg .entry)) (now (added .entry)) (now (vars .entry)) var kept) (now (out .exit)) r ⌝ }
+        (keptWords (now (pos .entry)) (gathered (now (sources .entry)) (now (neg .entry))) (now (added .entry)) (now (vars .entry)) var (now (entries .entry)) k)
+        (now (out .exit)) r ⌝ }
 {
-    let k = kept.rules;
     let second = put_word(out, at, var);
     let next = put_word(out, second, k as u32);
-    put_listed(out, next, &kept.entries, k, pos, neg, added, vars, lasts)
+    put_listed(out, next, entries, k, pos, sources, neg, added, vars, lasts)
 }
 
 // All copies, in sequence order.
-fn put_copies(
+fn put_copies<'a>(
     out: &mut [u32],
     at: usize,
-    t: ProgramTable,
+    size: ProgramSize,
+    heads: &'a [u8; 192],
+    pos: &'a [u64; 192],
+    sources: &'a [u8; 192],
+    neg: &'a [u64; 128],
+    added: &'a [u8; 192],
     q: &[u8],
     names: &[u8; 64],
     sets: &[u64; 64],
     lasts: &[u32; 64],
 ) -> usize
-    requires { ⌜ Ready t (now names) (now sets) (now q) × Values last (now lasts)
-        × (at + length (copiesWords (unfoldedIn t (now q))) ≤ length (now out)) ⌝ }
-    ensures { λ r. ⌜ Wrote (now (out .entry)) at (copiesWords (unfoldedIn t (now (q .entry)))) (now (out .exit)) r ⌝ }
+    requires { ⌜ Sources (now sources) × Ready (tableOf size (now heads) (now pos) (now sources) (now neg) (now added)) (now names) (now sets) (now q)
+        × Values last (now lasts)
+        × (at + length (copiesWords (unfoldedIn (tableOf size (now heads) (now pos) (now sources) (now neg) (now added)) (now q))) ≤ length (now out)) ⌝ }
+    ensures { λ r. ⌜ Wrote (now (out .entry)) at
+        (copiesWords (unfoldedIn (tableOf size (now (heads .entry)) (now (pos .entry)) (now (sources .entry)) (now (neg .entry)) (now (added .entry))) (now (q .entry))))
+        (now (out .exit)) r ⌝ }
 {
-    let rules = t.rules;
     let table = last_places(q);
-    let places = table.places;
     let mut latest = [0u32; 64];
+    let mut entries = [0u8; 192];
     let mut keeping: u64 = 0;
-    let mut fresh = t.atoms as u32;
+    let mut fresh = size.atoms as u32;
     let mut next = at;
     let mut i = 3;
     while i < q.len() {
-        let copy = copy_at(q, i, names, sets, &places, fresh);
+        let copy = copy_at(q, i, names, sets, &table.places, fresh);
         let a = copy.atom;
         let var = copy.var;
-        let kept = kept_rules(&t.heads, &t.pos, rules, a, copy.component, keeping);
+        let kept = kept_rules(
+            heads,
+            pos,
+            size.rules,
+            a,
+            copy.component,
+            keeping,
+            &mut entries,
+        );
         let mut vars = *lasts;
         overlay(&mut vars, &latest, copy.component);
-        next = put_copy(out, next, var, kept, &t.pos, &t.neg, &t.added, &vars, lasts);
+        next = put_copy(
+            out,
+            next,
+            var,
+            &entries,
+            kept,
+            pos,
+            sources,
+            neg,
+            added,
+            &vars,
+            lasts,
+        );
         latest[a] = var;
-        keeping = mark(keeping, a, kept.rules);
+        keeping = mark(keeping, a, kept);
         fresh = copy.fresh;
         i += 1;
     }
@@ -215,54 +247,89 @@ fn put_entries<'a>(
     from: usize,
     to: usize,
     pos: &'a [u64; 192],
-    neg: &'a [u64; 192],
+    sources: &'a [u8; 192],
+    neg: &'a [u64; 128],
     added: &'a [u8; 192],
     lasts: &[u32; 64],
 ) -> usize
-    requires { ⌜ Values last (now lasts) × (to ≤ 192)
-        × (at + length (entriesWords (now pos) (now neg) (now added) (now lasts) from to) ≤ length (now out)) ⌝ }
+    requires { ⌜ Sources (now sources) × Values last (now lasts) × (to ≤ 192)
+        × (at + length (entriesWords (now pos) (gathered (now sources) (now neg)) (now added) (now lasts) from to) ≤ length (now out)) ⌝ }
     ensures { λ r. ⌜ Wrote (now (out .entry)) at
-        (entriesWords (now (pos .entry)) (now (neg .entry)) (now (added .entry)) (now (lasts .entry)) from to) (now (out .exit)) r ⌝ }
+        (entriesWords (now (pos .entry)) (gathered (now (sources .entry)) (now (neg .entry))) (now (added .entry)) (now (lasts .entry)) from to)
+        (now (out .exit)) r ⌝ }
 {
     let mut next = at;
     let mut j = from;
     while j < to {
-        next = put_body(out, next, pos[j], neg[j], added[j], lasts, lasts);
+        let set = negative_at(sources, neg, j);
+        next = put_body(out, next, pos[j], set, added[j], lasts, lasts);
         j += 1;
     }
     next
 }
 
 // The unfolded program: the number of copies, the copies, the number of constraints and those.
-pub fn put_unfolded(
+pub fn put_unfolded<'a>(
     out: &mut [u32],
-    t: ProgramTable,
+    size: ProgramSize,
+    heads: &'a [u8; 192],
+    pos: &'a [u64; 192],
+    sources: &'a [u8; 192],
+    neg: &'a [u64; 128],
+    added: &'a [u8; 192],
     q: &[u8],
     names: &[u8; 64],
     sets: &[u64; 64],
 ) -> usize
-    requires { ⌜ Ready t (now names) (now sets) (now q) × (length (words (unfoldedIn t (now q))) ≤ length (now out)) ⌝ }
-    ensures { λ r. ⌜ Wrote (now (out .entry)) 0 (words (unfoldedIn t (now (q .entry)))) (now (out .exit)) r ⌝ }
+    requires { ⌜ Sources (now sources) × Ready (tableOf size (now heads) (now pos) (now sources) (now neg) (now added)) (now names) (now sets) (now q)
+        × (length (words (unfoldedIn (tableOf size (now heads) (now pos) (now sources) (now neg) (now added)) (now q))) ≤ length (now out)) ⌝ }
+    ensures { λ r. ⌜ Wrote (now (out .entry)) 0
+        (words (unfoldedIn (tableOf size (now (heads .entry)) (now (pos .entry)) (now (sources .entry)) (now (neg .entry)) (now (added .entry))) (now (q .entry))))
+        (now (out .exit)) r ⌝ }
 {
-    let from = t.rules;
-    let constraints = t.constraints;
+    let from = size.rules;
+    let constraints = size.constraints;
     let to = from + constraints;
     let table = last_copies();
-    let lasts = table.vars;
     let count = q.len() - 3;
     let first = put_word(out, 0, count as u32);
-    let behind = put_copies(out, first, t, q, names, sets, &lasts);
+    let behind = put_copies(
+        out,
+        first,
+        size,
+        heads,
+        pos,
+        sources,
+        neg,
+        added,
+        q,
+        names,
+        sets,
+        &table.vars,
+    );
     let next = put_word(out, behind, constraints as u32);
-    put_entries(out, next, from, to, &t.pos, &t.neg, &t.added, &lasts)
+    put_entries(out, next, from, to, pos, sources, neg, added, &table.vars)
 }
 
 // How many words that is: two for each copy, rule and constraint, one for each of their atoms, and the two numbers.
-pub fn unfolded_length(t: ProgramTable, q: &[u8], names: &[u8; 64], sets: &[u64; 64]) -> usize
-    requires { ⌜ Ready t (now names) (now sets) (now q) ⌝ }
-    ensures { λ r. ⌜ r ≡ length (words (unfoldedIn t (now (q .entry)))) ⌝ }
+pub fn unfolded_length<'a>(
+    size: ProgramSize,
+    heads: &'a [u8; 192],
+    pos: &'a [u64; 192],
+    sources: &'a [u8; 192],
+    neg: &'a [u64; 128],
+    added: &'a [u8; 192],
+    q: &[u8],
+    names: &[u8; 64],
+    sets: &[u64; 64],
+) -> usize
+    requires { ⌜ Sources (now sources)
+        × Ready (tableOf size (now heads) (now pos) (now sources) (now neg) (now added)) (now names) (now sets) (now q) ⌝ }
+    ensures { λ r. ⌜ r ≡ length
+        (words (unfoldedIn (tableOf size (now (heads .entry)) (now (pos .entry)) (now (sources .entry)) (now (neg .entry)) (now (added .entry))) (now (q .entry)))) ⌝ }
 {
     let count = q.len() - 3;
-    let totals = totals_of(t, q, names, sets);
+    let totals = totals_of(size, heads, pos, sources, neg, added, q, names, sets);
     let headers = count + totals.rules + totals.constraints + 1;
     2 * headers + totals.atoms + totals.literals
 }

@@ -1,13 +1,13 @@
-//! differential [INPUTS [SEED]]: compares the library with the reference on generated inputs.
+//! differential [INPUTS [SEED]]: compares both libraries with the reference, and with each other, on generated inputs.
 
-use rulesheet_tests::binding::MISSING_ROOM;
-use rulesheet_tests::inputs::{any_sheet, damaged};
-use rulesheet_tests::library::Library;
+use rulesheet_tests::inputs::{any_sheet, damaged, hub_sheet};
+use rulesheet_tests::library::Libraries;
 use rulesheet_tests::random::Random;
 use rulesheet_tests::reference::{answer, read_sheet, unfold, within, Graph, Unfolded};
 use rulesheet_tests::report::{Statistics, Tally};
-use rulesheet_tests::sequences::{any_sequence, thinned};
-use rulesheet_tests::service::{hex, Answer, Argument, Call, Operation, Service};
+use rulesheet_tests::rulesheet::MISSING_ROOM;
+use rulesheet_tests::sequences::{any_sequence, nearly_too_many, thinned};
+use rulesheet_tests::service::{hex, Answer, Argument, Call, Host, Operation, Service};
 use rulesheet_tests::sheet::{sequence_bytes, Sheet};
 use rulesheet_tests::vectors::{format, level};
 use std::env;
@@ -23,41 +23,39 @@ fn main() {
         env::args().skip(1).map(|argument| argument.parse().expect("usage: differential [INPUTS [SEED]]"));
     let inputs = arguments.next().unwrap_or(INPUTS);
     let mut random = Random::new(arguments.next().unwrap_or(SEED));
-    let mut comparison = Comparison {
-        library: Library::new(),
-        tally: Tally::default(),
-        statistics: Statistics::default(),
-        unfolded: 0,
-        shortened: 0,
-    };
+    let mut comparison = Comparison::default();
     let offered: Vec<Operation> =
-        Operation::ALL.into_iter().filter(|&operation| comparison.library.offers(operation)).collect();
+        Operation::ALL.into_iter().filter(|&operation| comparison.libraries.offers(operation)).collect();
     for _ in 0..inputs {
         let (sheet, sequence) = input(&mut random);
         comparison.count(&sheet, &sequence);
-        comparison.relate(&sheet, &sequence);
+        Host::ALL.into_iter().for_each(|host| comparison.relate(host, &sheet, &sequence));
         for &operation in &offered {
-            for (call, expected) in calls(&mut random, operation, &sheet, &sequence) {
-                comparison.compare(&call, &expected);
+            for asked in calls(&mut random, operation, &sheet, &sequence) {
+                comparison.compare(&asked);
             }
         }
     }
-    comparison.finish();
+    comparison.finish(inputs);
 }
 
 /// A sheet and a sequence, valid or not.
 fn input(random: &mut Random) -> (Vec<u8>, Vec<u8>) {
-    let sheet = any_sheet(random);
+    let for_hub = random.one_in(2);
+    let sheet = if for_hub { hub_sheet(random) } else { any_sheet(random) };
     let graph = Graph::new(&sheet);
     let small = graph.components().all(|component| component.len() <= LISTED);
-    let sequence =
-        if small && random.one_in(4) { sequence_bytes(&thinned(random, &graph)) } else { any_sequence(random, &sheet) };
-    let bytes = if random.one_in(2) { sheet.bytes() } else { damaged(random, &sheet) };
-    (bytes, sequence)
+    let sequence = match random.below(8) {
+        0..=1 if small => sequence_bytes(&thinned(random, &graph)),
+        2..=3 if for_hub => sequence_bytes(&nearly_too_many(random, &graph)),
+        _ => any_sequence(random, &sheet),
+    };
+    let is_damaged = random.one_in(if for_hub { 4 } else { 2 });
+    (if is_damaged { damaged(random, &sheet) } else { sheet.bytes() }, sequence)
 }
 
-/// The calls of an operation on one input, with the reference's answers.
-fn calls(random: &mut Random, operation: Operation, sheet: &[u8], sequence: &[u8]) -> Vec<(Call, Answer)> {
+/// The calls of an operation on one input, each to all services that offer it, with the reference's answers.
+fn calls(random: &mut Random, operation: Operation, sheet: &[u8], sequence: &[u8]) -> Vec<Vec<(Call, Answer)>> {
     let call = match operation {
         // Each run is a process.
         Operation::Program | Operation::LparseProgram if !random.one_in(20) => return Vec::new(),
@@ -65,16 +63,21 @@ fn calls(random: &mut Random, operation: Operation, sheet: &[u8], sequence: &[u8
         _ if operation.takes(Argument::Sequence) => Call::new(operation, sheet).sequence(sequence),
         _ => Call::new(operation, sheet),
     };
-    let answered = |call: Call| (call.clone(), answer(&call));
+    let answered = |call: Call| -> Vec<(Call, Answer)> {
+        let hosts = Host::ALL.into_iter().filter(|host| host.offers(operation));
+        hosts.map(|host| call.clone().at(host)).map(|call| (call.clone(), answer(&call))).collect()
+    };
     if operation.takes(Argument::Number) {
         return numbers(random, sheet).into_iter().map(|number| answered(call.clone().number(number))).collect();
     }
-    let (call, whole) = answered(call);
+    let whole = answered(call);
     if operation.takes(Argument::Room) {
-        let rooms = rooms(random, whole.length()).into_iter();
-        return rooms.map(|room| (call.clone().room(room), within(whole.clone(), Some(room)))).collect();
+        let fitted =
+            |(call, answer): &(Call, Answer), room| (call.clone().room(room), within(answer.clone(), Some(room)));
+        let rooms = rooms(random, whole[0].1.length()).into_iter();
+        return rooms.map(|room| whole.iter().map(|asked| fitted(asked, room)).collect()).collect();
     }
-    vec![(call, whole)]
+    vec![whole]
 }
 
 /// Record numbers inside the sheet, at its end and far beyond.
@@ -95,54 +98,94 @@ fn rooms(random: &mut Random, need: usize) -> Vec<usize> {
     near.chain([random.between(0, need), need + random.below(50)]).collect()
 }
 
+#[derive(Default)]
 struct Comparison {
-    library: Library,
+    libraries: Libraries,
     tally: Tally,
     statistics: Statistics,
     /// Inputs that are accepted for unfolding, and those of which W2 drops a rule.
     unfolded: usize,
     shortened: usize,
+    /// Inputs that pass the hub's test, and those that it refuses by 15 and by 16.
+    passed: usize,
+    too_large: usize,
+    too_long: usize,
 }
 
 impl Comparison {
     fn count(&mut self, sheet: &[u8], sequence: &[u8]) {
-        if let Ok(unfolded) = unfold(Unfolded::new, sheet, sequence) {
-            let before = unfold(Unfolded::unshortened, sheet, sequence).expect("they are accepted");
+        let call = Call::new(Operation::Unfolded, sheet).sequence(sequence);
+        if let Ok(unfolded) = unfold(Unfolded::new, &call) {
+            let before = unfold(Unfolded::unshortened, &call).expect("they are accepted");
             self.unfolded += 1;
             self.shortened += usize::from(unfolded.kept() < before.kept());
+        }
+        match answer(&Call::new(Operation::Test, sheet).sequence(sequence).at(Host::Hub)) {
+            Answer::Passed => self.passed += 1,
+            Answer::Refused(15) => self.too_large += 1,
+            Answer::Refused(16) => self.too_long += 1,
+            _ => {}
         }
     }
 
     /// A chain is missing just where testing refuses by 9, and none is, which is refused by 14, just where it passes. Before
     /// that both refuse alike.
-    fn relate(&mut self, sheet: &[u8], sequence: &[u8]) {
-        let call = |operation| Call::new(operation, sheet).sequence(sequence).room(MISSING_ROOM);
+    fn relate(&mut self, host: Host, sheet: &[u8], sequence: &[u8]) {
+        let call = |operation| Call::new(operation, sheet).sequence(sequence).room(MISSING_ROOM).at(host);
         let [test, missing] =
-            [Operation::Test, Operation::Missing].map(|operation| self.library.answer(&call(operation)));
+            [Operation::Test, Operation::Missing].map(|operation| self.libraries.answer(&call(operation)));
         let related = match (&test, &missing) {
             (Ok(Answer::Passed), missing) => *missing == Ok(Answer::Refused(14)),
             (Ok(Answer::Refused(9)), missing) => matches!(missing, Ok(Answer::Missing(_))),
             (test, missing) => test == missing,
         };
-        let result = if related { Ok(()) } else { Err(format!("test {test:?}, missing {missing:?}")) };
-        self.tally.add(&result);
-        if let Err(answers) = result {
-            println!("{} {}\n    instead: {answers}", hex(sheet), hex(sequence));
+        self.judge(related, || {
+            format!("{} {}\n    instead: {host:?}, test {test:?}, missing {missing:?}", hex(sheet), hex(sequence))
+        });
+    }
+
+    /// One call to all services that offer it: each library answers what the reference does, and the hub answers what the office
+    /// does. Where the hub refuses by 15 or 16, the office refuses by no question that comes before it.
+    fn compare(&mut self, asked: &[(Call, Answer)]) {
+        let answers: Vec<_> = asked.iter().map(|(call, _)| self.libraries.answer(call)).collect();
+        for ((call, expected), came) in asked.iter().zip(&answers) {
+            self.statistics.add(call, expected);
+            self.judge(came.as_ref() == Ok(expected), || fault(call, expected, came));
+        }
+        if let [office, hub] = &answers[..] {
+            let alike = match hub {
+                Ok(Answer::Refused(15)) => !matches!(office, Ok(Answer::Refused(1..=7 | 13))),
+                Ok(Answer::Refused(16)) => !matches!(office, Ok(Answer::Refused(1..=8 | 13))),
+                _ => hub == office,
+            };
+            let (call, expected) = &asked[1];
+            self.judge(alike, || format!("{}, office: {}", fault(call, expected, hub), shown(office)));
         }
     }
 
-    fn compare(&mut self, call: &Call, expected: &Answer) {
-        let result = self.library.check(call, &expected.to_string());
-        self.statistics.add(call.operation, expected);
+    fn judge(&mut self, right: bool, fault: impl FnOnce() -> String) {
+        let result = if right { Ok(()) } else { Err(fault()) };
         self.tally.add(&result);
-        if let Err(instead) = result {
-            println!("{}\n    instead: {instead}", format(level(), level(), call, expected));
+        if let Err(fault) = result {
+            println!("{fault}");
         }
     }
 
-    fn finish(&self) -> ! {
+    fn finish(&self, inputs: u64) -> ! {
         print!("{}", self.statistics);
         println!("    {} of {} inputs that are unfolded are shortened by W2", self.shortened, self.unfolded);
+        let Comparison { passed, too_large, too_long, .. } = self;
+        println!(
+            "    of {inputs} inputs {passed} pass the hub's test, {too_large} are refused by 15 and {too_long} by 16"
+        );
         self.tally.finish()
     }
+}
+
+fn fault(call: &Call, expected: &Answer, came: &Result<Answer, String>) -> String {
+    format!("{}\n    instead: {}", format(level(), level(), call, expected), shown(came))
+}
+
+fn shown(came: &Result<Answer, String>) -> String {
+    came.as_ref().map_or_else(String::clone, Answer::to_string)
 }

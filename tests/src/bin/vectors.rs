@@ -1,4 +1,4 @@
-//! vectors [--reference] FILE...: runs the cases of vector files against the library or the reference.
+//! vectors [--reference] FILE...: runs the cases of vector files against the libraries or the reference.
 
 use rulesheet_tests::reference::Reference;
 use rulesheet_tests::report::Tally;
@@ -44,12 +44,12 @@ fn run(line: &str, level: u32, service: &dyn Service, tally: &mut Tally) -> Resu
 
 #[cfg(feature = "library")]
 fn library() -> Box<dyn Service> {
-    Box::new(rulesheet_tests::library::Library::new())
+    Box::new(rulesheet_tests::library::Libraries::new())
 }
 
 #[cfg(not(feature = "library"))]
 fn library() -> Box<dyn Service> {
-    fail("built without the library: only --reference runs")
+    fail("built without the libraries: only --reference runs")
 }
 
 fn fail(message: &str) -> ! {

@@ -1,14 +1,11 @@
 //! The questions about the form of a sheet (1 to 6, 13) and of a sequence (8).
 
 use super::Refusal;
+use crate::limits::{MOST_RECORDS, OFFICE};
 use crate::sheet::{Record, Sheet, CHOICE, CONSTRAINT, RULE};
 
-const MOST_ATOMS: u8 = 64;
-const MOST_RECORDS: u8 = 128;
-const MOST_ENTRIES: usize = 640;
-
 /// Yes, or the refusal with this number.
-fn ask(question: Refusal, yes: bool) -> Result<(), Refusal> {
+pub fn ask(question: Refusal, yes: bool) -> Result<(), Refusal> {
     if yes {
         Ok(())
     } else {
@@ -21,7 +18,7 @@ pub fn sheet(bytes: &[u8]) -> Result<Sheet, Refusal> {
     ask(1, bytes.len() >= 5 && bytes[0] == 1)?;
     ask(2, usize::from(u16::from_be_bytes([bytes[1], bytes[2]])) == bytes.len())?;
     let (atoms, number) = (bytes[3], bytes[4]);
-    ask(3, atoms <= MOST_ATOMS && number <= MOST_RECORDS)?;
+    ask(3, usize::from(atoms) <= OFFICE.atoms && usize::from(number) <= MOST_RECORDS)?;
     let mut rest = &bytes[5..];
     let mut records = Vec::new();
     for _ in 0..number {
@@ -33,7 +30,7 @@ pub fn sheet(bytes: &[u8]) -> Result<Sheet, Refusal> {
     }
     ask(4, rest.is_empty())?;
     let sheet = Sheet { atoms, records };
-    ask(13, sheet.all_atoms() <= MOST_ATOMS.into())?;
+    ask(13, sheet.all_atoms() <= OFFICE.atoms)?;
     Ok(sheet)
 }
 
@@ -68,7 +65,7 @@ fn is_atom_list(list: &[u8], atoms: u8) -> bool {
 pub fn sequence(bytes: &[u8], atoms: u8) -> Result<Vec<u8>, Refusal> {
     ask(8, bytes.len() >= 3 && bytes[0] == 1)?;
     let number = usize::from(u16::from_be_bytes([bytes[1], bytes[2]]));
-    ask(8, number <= MOST_ENTRIES && bytes.len() == 3 + number)?;
+    ask(8, number <= OFFICE.entries && bytes.len() == 3 + number)?;
     let entries = bytes[3..].to_vec();
     ask(8, entries.iter().all(|&entry| entry < atoms))?;
     Ok(entries)

@@ -1,6 +1,6 @@
 -- `chains::chains_found` meets its contract, one law for each way through it.
-use borrow.Author.Needs.{needs}
 use Rattle.chains.proofs.Turning.{filled-tested}
+use borrow.Author.Needs.{needs}
 use Rattle.chains.proofs.chains_found.Statement.{statement}
 use Rattle.chains.proofs.chains_found.Tie as tie
 
@@ -16,11 +16,14 @@ sub-full c = search needs
 mul-subset : tie.Need-mul-subset
 mul-subset c = search needs
 
-array-read-subset : tie.Need-array-read-subset
-array-read-subset c = search needs
+slice-read-subset : tie.Need-slice-read-subset
+slice-read-subset c = search needs
 
 subset-requires : tie.Need-subset-requires
 subset-requires c κs = search needs
+
+same-length : tie.Need-same-length
+same-length c = search needs
 
 returns : tie.Need-returns
 returns c = search (needs, filled-tested)
@@ -33,6 +36,7 @@ chains-found-spec =
     power-requires
     sub-full
     mul-subset
-    array-read-subset
+    slice-read-subset
     subset-requires
+    same-length
     returns)

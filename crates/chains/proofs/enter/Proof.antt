@@ -1,6 +1,6 @@
 -- `chains::enter` meets its contract, one law for each way through it.
-use borrow.Author.Needs.{needs}
 use Rattle.chains.proofs.Turning.{entered-own, entered-other}
+use borrow.Author.Needs.{needs}
 use Rattle.chains.proofs.enter.Statement.{statement}
 use Rattle.chains.proofs.enter.Tie as tie
 
@@ -16,6 +16,9 @@ power-requires c κs = search needs
 step-requires : tie.Need-step-requires
 step-requires c κs = search needs
 
+same-length : tie.Need-same-length
+same-length c = search needs
+
 returns : tie.Need-returns
 returns c = search (needs, entered-own)
 
@@ -25,4 +28,11 @@ returns-2 c = search (needs, entered-other)
 pub enter-spec : {M : Type 1} → statement M
 enter-spec =
     tie.close
-    (tie.spec place-of-requires followers-requires power-requires step-requires returns returns-2)
+    (tie.spec
+    place-of-requires
+    followers-requires
+    power-requires
+    step-requires
+    same-length
+    returns
+    returns-2)

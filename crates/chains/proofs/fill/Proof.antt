@@ -1,14 +1,22 @@
 -- `chains::fill` meets its contract, one law for each way through it.
-use borrow.Author.Needs.{needs}
+use mathlib.Core.Path.{_≡_}
+use lib.ListN.{length}
 use Rattle.chains.proofs.Turning.{Reading, reading-start, reading-turn, reading-end, reading-low}
+use borrow.Author.Needs.{needs}
 use Rattle.chains.proofs.fill.Statement.{statement}
 use Rattle.chains.proofs.fill.Tie as tie
 
 abbrev Inv-loop : tie.InvT-loop
-Inv-loop sets₀ rows atoms k q from i₀ sets i = Reading rows atoms k q from i sets
+Inv-loop sets₀ rows atoms k q from i₀ sets i = Reading rows atoms k q from i sets × (length sets ≡ length sets₀)
 
 abbrev μ-loop : tie.MeasureT-loop
 μ-loop sets₀ rows atoms k q from i₀ sets i = i
+
+power-requires : tie.Need-power-requires Inv-loop μ-loop
+power-requires c κs = search needs
+
+clear-requires : tie.Need-clear-requires Inv-loop μ-loop
+clear-requires c κs = search needs
 
 loop-holds : tie.Need-loop-holds Inv-loop μ-loop
 loop-holds c = search (needs, reading-start)
@@ -28,6 +36,9 @@ loop-less c = search needs
 loop-again : tie.Need-loop-again Inv-loop μ-loop
 loop-again c = search (needs, reading-turn)
 
+same-length : tie.Need-same-length Inv-loop μ-loop
+same-length c = search needs
+
 returns : tie.Need-returns Inv-loop μ-loop
 returns c = search (needs, reading-end)
 
@@ -37,10 +48,13 @@ fill-spec =
     (tie.spec
     Inv-loop
     μ-loop
+    power-requires
+    clear-requires
     loop-holds
     sub-i
     byte-at-requires
     enter-requires
     loop-less
     loop-again
+    same-length
     returns)

@@ -1,14 +1,14 @@
 -- `chains::row_after` meets its contract, one law for each way through it.
-use borrow.Author.Needs.{needs}
 use Rattle.chains.proofs.Rows.{row-covered, row-lacking}
+use borrow.Author.Needs.{needs}
 use Rattle.chains.proofs.row_after.Statement.{statement}
 use Rattle.chains.proofs.row_after.Tie as tie
 
 mul-row : tie.Need-mul-row
 mul-row c = search needs
 
-element-copy-out-row : tie.Need-element-copy-out-row
-element-copy-out-row c = search needs
+shared-slice-read-row : tie.Need-shared-slice-read-row
+shared-slice-read-row c = search needs
 
 without-requires : tie.Need-without-requires
 without-requires c κs = search needs
@@ -19,8 +19,8 @@ intersection-requires c κs = search needs
 mul-subset : tie.Need-mul-subset
 mul-subset c = search needs
 
-element-copy-out-subset : tie.Need-element-copy-out-subset
-element-copy-out-subset c = search needs
+shared-slice-read-subset : tie.Need-shared-slice-read-subset
+shared-slice-read-subset c = search needs
 
 subset-requires : tie.Need-subset-requires
 subset-requires c κs = search needs
@@ -39,11 +39,11 @@ row-after-spec =
     tie.close
     (tie.spec
     mul-row
-    element-copy-out-row
+    shared-slice-read-row
     without-requires
     intersection-requires
     mul-subset
-    element-copy-out-subset
+    shared-slice-read-subset
     subset-requires
     with-requires
     returns

@@ -1,15 +1,13 @@
 -- `chains::step` meets its contract, one law for each way through it.
-use mathlib.Core.Path.{_≡_}
 use Prim.Native.Nat.{_-_}
 use native.Mathlib.Omega.{arith}
-use borrow.Author.Needs.{needs}
-use lib.ListN.{length}
 use Rattle.chains.proofs.Rows.{Stepping, stepping-start, stepping-turn, stepping-end}
+use borrow.Author.Needs.{needs}
 use Rattle.chains.proofs.step.Statement.{statement}
 use Rattle.chains.proofs.step.Tie as tie
 
 abbrev Inv-loop : tie.InvT-loop
-Inv-loop sets₀ size i after set₀ sets set = Stepping sets₀ i after set sets × (length sets₀ ≡ 1024)
+Inv-loop sets₀ size i after set₀ sets set = Stepping sets₀ i after set sets
 
 abbrev μ-loop : tie.MeasureT-loop
 μ-loop sets₀ size i after set₀ sets set = size - set
@@ -26,8 +24,8 @@ row-after-requires c κs = search needs
 mul-sets : tie.Need-mul-sets Inv-loop μ-loop
 mul-sets c = search needs
 
-element-write-sets : tie.Need-element-write-sets Inv-loop μ-loop
-element-write-sets c = search needs
+slice-write-sets : tie.Need-slice-write-sets Inv-loop μ-loop
+slice-write-sets c = search needs
 
 next-with-requires : tie.Need-next-with-requires Inv-loop μ-loop
 next-with-requires c κs = search needs
@@ -38,7 +36,10 @@ loop-less c = search needs
 loop-again : tie.Need-loop-again Inv-loop μ-loop
 loop-again c =
     let k = c .before .before .before .before .loop in
-    (stepping-turn _ _ _ (k .set) (c .before .row-after .result) _ (k .sets) (k .inv .0) (omega arith) (c .before .row-after .ensures) (c .next-with .ensures), k .inv .1)
+    stepping-turn _ _ _ (k .set) (c .before .row-after .result) _ (k .sets) (k .inv) (omega arith) (c .before .row-after .ensures) (c .next-with .ensures)
+
+same-length : tie.Need-same-length Inv-loop μ-loop
+same-length c = search needs
 
 returns : tie.Need-returns Inv-loop μ-loop
 returns c = search (needs, stepping-end)
@@ -53,8 +54,9 @@ step-spec =
     loop-holds
     row-after-requires
     mul-sets
-    element-write-sets
+    slice-write-sets
     next-with-requires
     loop-less
     loop-again
+    same-length
     returns)

@@ -13,6 +13,11 @@ use Rattle.unfolding.specs.inner.Started.{Started}
 use Rattle.bits.specs.inner.Sets.{has}
 use Rattle.bits.specs.inner.Visited.{listed}
 
+-- A table of so many rows has one for each set of k places, and k is at most ten.
+pub record Roomy (k rows : ℕ) : Type 0 where
+  pub few : k ≤ 10
+  pub room : 2 ^ k ≤ rows
+
 -- The first k atoms of the list are a component; place p is that of the p-th. Row a of the table of edges has the atoms with an edge to a.
 pub record Setting (P : Program) (rows atoms : List ℕ) (k : ℕ) : Type 0 where
   pub formed : wellFormed P ≡ true
@@ -48,7 +53,6 @@ pub record NextWith (S i r : ℕ) : Type 0 where
 
 -- All rows below a size.
 pub record TableAfter (old : List ℕ) (size i after : ℕ) (new : List ℕ) : Type 0 where
-  pub long : length new ≡ length old
   pub rows : (S : ℕ) → S < size → RowAfter old S i after (getD new S 0)
 
 -- The places that the atom x has edges to.
@@ -68,12 +72,14 @@ pub record Power (k r : ℕ) : Type 0 where
 
 -- One entry more, in front of those read.
 pub record Entered (rows atoms : List ℕ) (k x : ℕ) (old new : List ℕ) : Type 0 where
-  pub long : length new ≡ length old
   pub turns : (P : Program) (s : List ℕ) → Setting P rows atoms k → SubsetTable P atoms k old s → SubsetTable P atoms k new (x ∷ s)
+
+-- All rows below a size are empty.
+pub record Cleared (size : ℕ) (sets : List ℕ) : Type 0 where
+  pub empty : (S : ℕ) → S < size → getD sets S 0 ≡ 0
 
 -- The table is that of s.
 pub record Filled (rows atoms : List ℕ) (k : ℕ) (s sets : List ℕ) : Type 0 where
-  pub long : length sets ≡ 1024
   pub table : (P : Program) → Setting P rows atoms k → SubsetTable P atoms k sets s
 
 -- Whether every chain of the component is found in s.
@@ -104,9 +110,9 @@ pub record Graph (P : Program) (n : ℕ) (rows sets : List ℕ) : Type 0 where
   pub edged : Edged P rows
   pub grouped : (c : ℕ) → c < 64 → Members P c (getD sets c 0)
 
--- Components of at most ten atoms.
-pub record Small (n : ℕ) (sets : List ℕ) : Type 0 where
-  pub few : (c : ℕ) → c < n → length (listed (getD sets c 0)) ≤ 10
+-- A table of so many rows has one for each set of atoms of any component, and components have at most ten atoms.
+pub record Small (n : ℕ) (sets : List ℕ) (rows : ℕ) : Type 0 where
+  pub few : (c : ℕ) → c < n → Roomy (length (listed (getD sets c 0))) rows
 
 -- The chain question.
 pub record PassesBy (n : ℕ) (rows sets s : List ℕ) (r : Bool) : Type 0 where

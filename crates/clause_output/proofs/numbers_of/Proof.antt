@@ -10,26 +10,11 @@ sub-count c = search needs
 totals-of-requires : tie.Need-totals-of-requires
 totals-of-requires c κs = search needs
 
-mul-t10 : tie.Need-mul-t10
-mul-t10 c = search needs
+mul-t15 : tie.Need-mul-t15
+mul-t15 c = search needs
 
-mul-t11 : tie.Need-mul-t11
-mul-t11 c = search needs
-
-add-t12 : tie.Need-add-t12
-add-t12 c = search needs
-
-mul-t13 : tie.Need-mul-t13
-mul-t13 c = search needs
-
-add-t14 : tie.Need-add-t14
-add-t14 c = search needs
-
-add-t15 : tie.Need-add-t15
-add-t15 c = search needs
-
-add-t16 : tie.Need-add-t16
-add-t16 c = search needs
+mul-t16 : tie.Need-mul-t16
+mul-t16 c = search needs
 
 add-t17 : tie.Need-add-t17
 add-t17 c = search needs
@@ -46,6 +31,21 @@ add-t20 c = search needs
 add-t21 : tie.Need-add-t21
 add-t21 c = search needs
 
+add-t22 : tie.Need-add-t22
+add-t22 c = search needs
+
+mul-t23 : tie.Need-mul-t23
+mul-t23 c = search needs
+
+add-t24 : tie.Need-add-t24
+add-t24 c = search needs
+
+add-t25 : tie.Need-add-t25
+add-t25 c = search needs
+
+add-t26 : tie.Need-add-t26
+add-t26 c = search needs
+
 returns : tie.Need-returns
 returns c = search (needs, numbers-are)
 
@@ -55,16 +55,16 @@ numbers-of-spec =
     (tie.spec
     sub-count
     totals-of-requires
-    mul-t10
-    mul-t11
-    add-t12
-    mul-t13
-    add-t14
-    add-t15
-    add-t16
+    mul-t15
+    mul-t16
     add-t17
     mul-t18
     add-t19
     add-t20
     add-t21
+    add-t22
+    mul-t23
+    add-t24
+    add-t25
+    add-t26
     returns)

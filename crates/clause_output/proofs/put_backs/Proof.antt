@@ -1,5 +1,6 @@
 -- `clause_output::put_backs` meets its contract, one law for each way through it.
 use borrow.Author.Needs.{needs}
+use Rattle.program.specs.inner.Held.{gathered}
 use Rattle.clause_output.proofs.Rules.{BacksLeft, backs-start, backs-room, backs-turn, backs-length, backs-end}
 use Rattle.rule_clauses.proofs.Signs.{last-small}
 use Prim.Native.Nat.{_-_}
@@ -7,13 +8,16 @@ use Rattle.clause_output.proofs.put_backs.Statement.{statement}
 use Rattle.clause_output.proofs.put_backs.Tie as tie
 
 abbrev Inv-loop : tie.InvT-loop
-Inv-loop out₀ at from to pos neg added lasts next₀ j₀ out next j = BacksLeft pos neg added lasts out₀ at from to out next j
+Inv-loop out₀ at from to pos sources neg added lasts next₀ j₀ out next j = BacksLeft pos (gathered sources neg) added lasts out₀ at from to out next j
 
 abbrev μ-loop : tie.MeasureT-loop
-μ-loop out₀ at from to pos neg added lasts next₀ j₀ out next j = to - j
+μ-loop out₀ at from to pos sources neg added lasts next₀ j₀ out next j = to - j
 
 loop-holds : tie.Need-loop-holds Inv-loop μ-loop
 loop-holds c = search (needs, backs-start)
+
+negative-at-requires : tie.Need-negative-at-requires Inv-loop μ-loop
+negative-at-requires c κs = search needs
 
 mul-put-back : tie.Need-mul-put-back Inv-loop μ-loop
 mul-put-back c = search needs
@@ -21,14 +25,8 @@ mul-put-back c = search needs
 element-copy-out-put-back : tie.Need-element-copy-out-put-back Inv-loop μ-loop
 element-copy-out-put-back c = search needs
 
-mul-put-back-2 : tie.Need-mul-put-back-2 Inv-loop μ-loop
-mul-put-back-2 c = search needs
-
 element-copy-out-put-back-2 : tie.Need-element-copy-out-put-back-2 Inv-loop μ-loop
 element-copy-out-put-back-2 c = search needs
-
-element-copy-out-put-back-3 : tie.Need-element-copy-out-put-back-3 Inv-loop μ-loop
-element-copy-out-put-back-3 c = search needs
 
 put-back-requires : tie.Need-put-back-requires Inv-loop μ-loop
 put-back-requires c κs = (search (needs, last-small), search needs, search (needs, backs-room))
@@ -55,11 +53,10 @@ put-backs-spec =
     Inv-loop
     μ-loop
     loop-holds
+    negative-at-requires
     mul-put-back
     element-copy-out-put-back
-    mul-put-back-2
     element-copy-out-put-back-2
-    element-copy-out-put-back-3
     put-back-requires
     add-j
     loop-less

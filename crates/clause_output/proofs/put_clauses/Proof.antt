@@ -11,10 +11,14 @@ last-copies-requires : tie.Need-last-copies-requires
 last-copies-requires c κs = search needs
 
 put-copies-requires : tie.Need-put-copies-requires
-put-copies-requires c κs = (search needs, search needs, search (needs, all-first))
+put-copies-requires c κs = (search needs, search needs, search needs, search (needs, all-first))
 
 put-backs-requires : tie.Need-put-backs-requires
-put-backs-requires c κs = (search needs, search needs, search (needs, all-second))
+put-backs-requires c κs =
+    let copies = c .before .before .before .before in
+    let table = copies .before .before .before .before in
+    let start = table .before .before .before in
+    (start .pre .0, table .last-copies .ensures, start .pre .1 .readable .few, all-second _ _ _ _ (start .pre .1) _ _ (table .last-copies .ensures) (start .pre .2) _ _ (copies .put-copies .ensures))
 
 same-length : tie.Need-same-length
 same-length c = search needs

@@ -4,17 +4,17 @@ use borrow.Author.Needs.{needs}
 use Rattle.clause_output.proofs.put_copy.Statement.{statement}
 use Rattle.clause_output.proofs.put_copy.Tie as tie
 
-cast-k : tie.Need-cast-k
-cast-k c = search needs
+cast-rules : tie.Need-cast-rules
+cast-rules c = search needs
 
 put-first-requires : tie.Need-put-first-requires
 put-first-requires c κs = (search (needs, copy-first), search needs, search (needs, copy-numbers))
 
 put-rules-requires : tie.Need-put-rules-requires
-put-rules-requires c κs = (search needs, search needs, search needs, search needs, search (needs, copy-numbers), search (needs, copy-second))
+put-rules-requires c κs = (search needs, search needs, search needs, search needs, search needs, search (needs, copy-numbers), search (needs, copy-second))
 
-add-t19 : tie.Need-add-t19
-add-t19 c = search needs
+add-t21 : tie.Need-add-t21
+add-t21 c = search needs
 
 same-length : tie.Need-same-length
 same-length c = search needs
@@ -24,4 +24,5 @@ returns c = search (needs, copy-put)
 
 pub put-copy-spec : {M : Type 1} → statement M
 put-copy-spec =
-    tie.close (tie.spec cast-k put-first-requires put-rules-requires add-t19 same-length returns)
+    tie.close
+    (tie.spec cast-rules put-first-requires put-rules-requires add-t21 same-length returns)

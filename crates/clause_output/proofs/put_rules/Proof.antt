@@ -1,15 +1,16 @@
 -- `clause_output::put_rules` meets its contract, one law for each way through it.
 use borrow.Author.Needs.{needs}
+use Rattle.program.specs.inner.Held.{gathered}
 use Rattle.clause_output.proofs.Rules.{RulesLeft, rules-start, rules-variable, rules-room, rules-turn, rules-length, rules-end}
 use Prim.Native.Nat.{_-_}
 use Rattle.clause_output.proofs.put_rules.Statement.{statement}
 use Rattle.clause_output.proofs.put_rules.Tie as tie
 
 abbrev Inv-loop : tie.InvT-loop
-Inv-loop out₀ at pos neg added vars lasts k entries var rule₀ next₀ j₀ out rule next j = RulesLeft pos neg added vars var rule₀ entries k out₀ at out next rule j
+Inv-loop out₀ at entries k pos sources neg added vars lasts var rule₀ next₀ j₀ out rule next j = RulesLeft pos (gathered sources neg) added vars var rule₀ entries k out₀ at out next rule j
 
 abbrev μ-loop : tie.MeasureT-loop
-μ-loop out₀ at pos neg added vars lasts k entries var rule₀ next₀ j₀ out rule next j = k - j
+μ-loop out₀ at entries k pos sources neg added vars lasts var rule₀ next₀ j₀ out rule next j = k - j
 
 loop-holds : tie.Need-loop-holds Inv-loop μ-loop
 loop-holds c = search (needs, rules-start)
@@ -17,20 +18,17 @@ loop-holds c = search (needs, rules-start)
 entry-at-requires : tie.Need-entry-at-requires Inv-loop μ-loop
 entry-at-requires c κs = search needs
 
+negative-at-requires : tie.Need-negative-at-requires Inv-loop μ-loop
+negative-at-requires c κs = search needs
+
 mul-put-rule : tie.Need-mul-put-rule Inv-loop μ-loop
 mul-put-rule c = search needs
 
 element-copy-out-put-rule : tie.Need-element-copy-out-put-rule Inv-loop μ-loop
 element-copy-out-put-rule c = search needs
 
-mul-put-rule-2 : tie.Need-mul-put-rule-2 Inv-loop μ-loop
-mul-put-rule-2 c = search needs
-
 element-copy-out-put-rule-2 : tie.Need-element-copy-out-put-rule-2 Inv-loop μ-loop
 element-copy-out-put-rule-2 c = search needs
-
-element-copy-out-put-rule-3 : tie.Need-element-copy-out-put-rule-3 Inv-loop μ-loop
-element-copy-out-put-rule-3 c = search needs
 
 put-rule-requires : tie.Need-put-rule-requires Inv-loop μ-loop
 put-rule-requires c κs = (search needs, search needs, search needs, search (needs, rules-variable), search (needs, rules-room))
@@ -61,11 +59,10 @@ put-rules-spec =
     μ-loop
     loop-holds
     entry-at-requires
+    negative-at-requires
     mul-put-rule
     element-copy-out-put-rule
-    mul-put-rule-2
     element-copy-out-put-rule-2
-    element-copy-out-put-rule-3
     put-rule-requires
     add-rule
     add-j

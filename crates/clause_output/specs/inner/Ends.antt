@@ -9,7 +9,6 @@ use Rattle.unfolding.specs.Unfolded.{Unfolded}
 use Rattle.unfolding.specs.Clauses.{positive, negative, rulesClauses, copyClauses, copiesClauses, constraintClause, clauses, variables, signed, clauseWords, signedWords}
 use Rattle.writer.specs.inner.Wrote.{Wrote}
 use Rattle.copies.specs.inner.Bodies.{entryBody, bodiesBy}
-use Rattle.copies.specs.declared.KeptRules.{KeptRules}
 use Rattle.clause_output.specs.declared.Ends.{Ends}
 use Rattle.clause_output.specs.declared.Numbers.{Numbers}
 
@@ -25,10 +24,10 @@ numbersWords from to = map signed (map positive (range from (to - from)))
 unfoldable pub firstWords : ℕ → ℕ → ℕ → List ℤ
 firstWords h d k = clauseWords (negative h ∷ map positive (range d k))
 
--- The words of the clauses of a copy whose rules have the variables from d on.
-unfoldable pub copyClauseWords : List ℕ → List ℕ → List ℕ → List ℕ → ℕ → ℕ → KeptRules → List ℤ
-copyClauseWords pos neg added vars d var kept =
-    signedWords (copyClauses d (record { atom = 0; var = var; kept = bodiesBy pos neg added vars (kept .entries) (kept .rules) }))
+-- The words of the clauses of a copy with the rules at the first k entries that are listed; their variables are counted on from d.
+unfoldable pub copyClauseWords : List ℕ → List ℕ → List ℕ → List ℕ → ℕ → ℕ → List ℕ → ℕ → List ℤ
+copyClauseWords pos neg added vars d var entries k =
+    signedWords (copyClauses d (record { atom = 0; var = var; kept = bodiesBy pos neg added vars entries k }))
 
 -- The words of the clauses of all copies.
 unfoldable pub copiesClauseWords : Unfolded → List ℤ
@@ -39,9 +38,9 @@ unfoldable pub backsWords : List ℕ → List ℕ → List ℕ → List ℕ → 
 backsWords pos neg added vars from to = signedWords (map constraintClause (map (entryBody pos neg added vars) (range from (to - from))))
 
 -- A copy's clauses are written, and the next rule's variable comes behind.
-pub record CopyPut (pos neg added vars : List ℕ) (var : ℕ) (kept : KeptRules) (old new : List ℤ) (from to : Ends) : Type 0 where
-  pub wrote : Wrote old (from .at) (copyClauseWords pos neg added vars (from .rule) var kept) new (to .at)
-  pub rule : to .rule ≡ from .rule + kept .rules
+pub record CopyPut (pos neg added vars : List ℕ) (var : ℕ) (entries : List ℕ) (k : ℕ) (old new : List ℤ) (from to : Ends) : Type 0 where
+  pub wrote : Wrote old (from .at) (copyClauseWords pos neg added vars (from .rule) var entries k) new (to .at)
+  pub rule : to .rule ≡ from .rule + k
 
 -- How many words, variables and clauses there are.
 pub record NumbersOf (U : Unfolded) (r : Numbers) : Type 0 where

@@ -1,13 +1,9 @@
+-- `components::components_of` meets its contract, one law for each way through it.
 use Rattle.components.proofs.Graphs.{graph-made}
 use Rattle.components.proofs.Naming.{named-low}
 use borrow.Author.Needs.{needs}
 use Rattle.components.proofs.components_of.Statement.{statement}
 use Rattle.components.proofs.components_of.Tie as tie
-use Rattle.components.proofs.components_of.Reads as reads
-use Rattle.components.proofs.components_of.Lts as lts
-use Rattle.components.proofs.close.Reads as close-reads
-use Rattle.components.proofs.store_names.Reads as store-names-reads
-use Rattle.components.proofs.store_sets.Reads as store-sets-reads
 
 close-requires : tie.Need-close-requires
 close-requires c κs = search needs
@@ -23,5 +19,4 @@ returns c = search (needs, graph-made)
 
 pub components-of-spec : {M : Type 1} → statement M
 components-of-spec =
-    tie.close
-    (tie.spec close-requires store-names-requires store-sets-requires returns)
+    tie.close (tie.spec close-requires store-names-requires store-sets-requires returns)

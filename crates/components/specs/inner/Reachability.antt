@@ -9,7 +9,6 @@ use Rattle.lists.specs.Lists.{all, filter, range}
 use Rattle.asp.specs.Program.{Program, wellFormed}
 use Rattle.unfolding.specs.Graph.{edge, first, component}
 use Rattle.bits.specs.inner.Sets.{has}
-use Rattle.components.specs.declared.Components.{Components}
 
 -- A relation between atoms.
 abbrev pub Relation : Type 0
@@ -81,16 +80,19 @@ named names c n = filter (λ a. eqb (getD names a 0) c) (range 0 n)
 unfoldable pub namesFit : ℕ → List ℕ → ℕ → Bool
 namesFit most names n = all (λ c. leb (length (named names c n)) most) (range 0 n)
 
--- Whether sets of this size at most stand for all names.
-pub record SetsFit (most n : ℕ) (sets : List ℕ) (r : Bool) : Type 0 where
-  pub is : (names : List ℕ) → SetsOf names n sets → r ≡ namesFit most names n
+-- r is the larger of two numbers: what is not below it is not below either.
+pub record Larger (a b r : ℕ) : Type 0 where
+  pub is : (most : ℕ) → leb r most ≡ (leb a most && leb b most)
 
--- The graph of a program: its edges, its components' names and sets.
-pub record ComponentsOf (P : Program) (r : Components) : Type 0 where
-  pub edges : EdgesOf P (r .edges)
-  pub named : NamesOf P (r .names)
-  pub grouped : SetsOf (r .names) (P .atoms) (r .sets)
+-- r is the size of the largest set: question 7 with any limit.
+pub record Largest (n : ℕ) (sets : List ℕ) (r : ℕ) : Type 0 where
+  pub is : (names : List ℕ) → SetsOf names n sets → (most : ℕ) → leb r most ≡ namesFit most names n
 
--- The graph of every program of n atoms with these edges.
-pub record GraphOf (n : ℕ) (edges : List ℕ) (r : Components) : Type 0 where
-  pub is : (P : Program) → wellFormed P ≡ true → P .atoms ≡ n → EdgesOf P edges → ComponentsOf P r
+-- The components of a program: their names and sets.
+pub record ComponentsOf (P : Program) (names sets : List ℕ) : Type 0 where
+  pub named : NamesOf P names
+  pub grouped : SetsOf names (P .atoms) sets
+
+-- The components of every program of n atoms with these edges.
+pub record GraphOf (n : ℕ) (edges names sets : List ℕ) : Type 0 where
+  pub is : (P : Program) → wellFormed P ≡ true → P .atoms ≡ n → EdgesOf P edges → ComponentsOf P names sets

@@ -1,18 +1,22 @@
 -- `copies::atoms_at` meets its contract, one law for each way through it.
 use borrow.Author.Needs.{needs}
+use Rattle.program.specs.inner.Held.{gathered}
 use Rattle.copies.proofs.Keeping.{Adding, adding-start, adding-room, adding-turn, adding-end}
 use Prim.Native.Nat.{_-_}
 use Rattle.copies.proofs.atoms_at.Statement.{statement}
 use Rattle.copies.proofs.atoms_at.Tie as tie
 
 abbrev Inv-loop : tie.InvT-loop
-Inv-loop pos neg added from to atoms₀ j₀ atoms j = Adding pos neg added from to atoms j
+Inv-loop pos sources neg added from to atoms₀ j₀ atoms j = Adding pos (gathered sources neg) added from to atoms j
 
 abbrev μ-loop : tie.MeasureT-loop
-μ-loop pos neg added from to atoms₀ j₀ atoms j = to - j
+μ-loop pos sources neg added from to atoms₀ j₀ atoms j = to - j
 
 loop-holds : tie.Need-loop-holds Inv-loop μ-loop
 loop-holds c = search (needs, adding-start)
+
+negative-at-requires : tie.Need-negative-at-requires Inv-loop μ-loop
+negative-at-requires c κs = search needs
 
 mul-body-atoms : tie.Need-mul-body-atoms Inv-loop μ-loop
 mul-body-atoms c = search needs
@@ -20,14 +24,8 @@ mul-body-atoms c = search needs
 element-copy-out-body-atoms : tie.Need-element-copy-out-body-atoms Inv-loop μ-loop
 element-copy-out-body-atoms c = search needs
 
-mul-body-atoms-2 : tie.Need-mul-body-atoms-2 Inv-loop μ-loop
-mul-body-atoms-2 c = search needs
-
 element-copy-out-body-atoms-2 : tie.Need-element-copy-out-body-atoms-2 Inv-loop μ-loop
 element-copy-out-body-atoms-2 c = search needs
-
-element-copy-out-body-atoms-3 : tie.Need-element-copy-out-body-atoms-3 Inv-loop μ-loop
-element-copy-out-body-atoms-3 c = search needs
 
 body-atoms-requires : tie.Need-body-atoms-requires Inv-loop μ-loop
 body-atoms-requires c κs = search needs
@@ -54,11 +52,10 @@ atoms-at-spec =
     Inv-loop
     μ-loop
     loop-holds
+    negative-at-requires
     mul-body-atoms
     element-copy-out-body-atoms
-    mul-body-atoms-2
     element-copy-out-body-atoms-2
-    element-copy-out-body-atoms-3
     body-atoms-requires
     add-atoms
     add-j

@@ -1,18 +1,22 @@
 -- `copies::body_sizes` meets its contract, one law for each way through it.
 use borrow.Author.Needs.{needs}
+use Rattle.program.specs.inner.Held.{gathered}
 use Prim.Native.Nat.{_-_}
 use Rattle.copies.proofs.Keeping.{Sizing, sizing-start, sizing-fits, sizing-turn, sizing-end}
 use Rattle.copies.proofs.body_sizes.Statement.{statement}
 use Rattle.copies.proofs.body_sizes.Tie as tie
 
 abbrev Inv-loop : tie.InvT-loop
-Inv-loop pos neg added rules sizes₀ j₀ sizes j = Sizing pos neg added rules sizes j
+Inv-loop pos sources neg added rules sizes₀ j₀ sizes j = Sizing pos (gathered sources neg) added rules sizes j
 
 abbrev μ-loop : tie.MeasureT-loop
-μ-loop pos neg added rules sizes₀ j₀ sizes j = rules - j
+μ-loop pos sources neg added rules sizes₀ j₀ sizes j = rules - j
 
 loop-holds : tie.Need-loop-holds Inv-loop μ-loop
 loop-holds c = search (needs, sizing-start)
+
+negative-at-requires : tie.Need-negative-at-requires Inv-loop μ-loop
+negative-at-requires c κs = search needs
 
 mul-body-atoms : tie.Need-mul-body-atoms Inv-loop μ-loop
 mul-body-atoms c = search needs
@@ -20,14 +24,8 @@ mul-body-atoms c = search needs
 element-copy-out-body-atoms : tie.Need-element-copy-out-body-atoms Inv-loop μ-loop
 element-copy-out-body-atoms c = search needs
 
-mul-body-atoms-2 : tie.Need-mul-body-atoms-2 Inv-loop μ-loop
-mul-body-atoms-2 c = search needs
-
 element-copy-out-body-atoms-2 : tie.Need-element-copy-out-body-atoms-2 Inv-loop μ-loop
 element-copy-out-body-atoms-2 c = search needs
-
-element-copy-out-body-atoms-3 : tie.Need-element-copy-out-body-atoms-3 Inv-loop μ-loop
-element-copy-out-body-atoms-3 c = search needs
 
 body-atoms-requires : tie.Need-body-atoms-requires Inv-loop μ-loop
 body-atoms-requires c κs = search needs
@@ -57,11 +55,10 @@ body-sizes-spec =
     Inv-loop
     μ-loop
     loop-holds
+    negative-at-requires
     mul-body-atoms
     element-copy-out-body-atoms
-    mul-body-atoms-2
     element-copy-out-body-atoms-2
-    element-copy-out-body-atoms-3
     body-atoms-requires
     cast-sizes
     array-write-sizes

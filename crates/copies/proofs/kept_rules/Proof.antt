@@ -29,8 +29,8 @@ is-kept-requires c κs = search needs
 cast-entries : tie.Need-cast-entries Inv-loop μ-loop
 cast-entries c = search needs
 
-array-write-entries : tie.Need-array-write-entries Inv-loop μ-loop
-array-write-entries c = search needs
+element-write-entries : tie.Need-element-write-entries Inv-loop μ-loop
+element-write-entries c = search needs
 
 add-if-requires : tie.Need-add-if-requires Inv-loop μ-loop
 add-if-requires c κs = search needs
@@ -59,7 +59,7 @@ kept-rules-spec =
     element-copy-out-is-kept-2
     is-kept-requires
     cast-entries
-    array-write-entries
+    element-write-entries
     add-if-requires
     add-j
     loop-less

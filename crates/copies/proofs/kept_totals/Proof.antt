@@ -2,15 +2,18 @@
 use borrow.Author.Needs.{needs}
 use Prim.Native.Nat.{_-_}
 use lib.ListN.{length}
+use Rattle.program.specs.inner.Held.{tableOf}
 use Rattle.copies.proofs.Totalling.{Totalling, totalling-start, totalling-atom, totalling-name, totalling-rules, totalling-atoms, totalling-turn, totalling-end}
 use Rattle.copies.proofs.kept_totals.Statement.{statement}
 use Rattle.copies.proofs.kept_totals.Tie as tie
 
 abbrev Inv-loop : tie.InvT-loop
-Inv-loop q names sets t count sizes keeping₀ rules₀ atoms₀ i₀ keeping rules atoms i = Totalling t q i keeping rules atoms
+Inv-loop size heads pos sources neg added q names sets table keeping₀ rules₀ atoms₀ i₀ keeping rules atoms i =
+    Totalling (tableOf size heads pos sources neg added) q i keeping rules atoms
 
 abbrev μ-loop : tie.MeasureT-loop
-μ-loop q names sets t count sizes keeping₀ rules₀ atoms₀ i₀ keeping rules atoms i = length q - i
+μ-loop size heads pos sources neg added q names sets table keeping₀ rules₀ atoms₀ i₀ keeping rules atoms i =
+    length q - i
 
 body-sizes-requires : tie.Need-body-sizes-requires Inv-loop μ-loop
 body-sizes-requires c κs = search needs

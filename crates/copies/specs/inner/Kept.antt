@@ -10,7 +10,6 @@ use Rattle.bits.specs.inner.Sets.{has}
 use Rattle.bits.specs.inner.Visited.{listed}
 use Rattle.copies.specs.inner.Bodies.{bodyAtoms}
 use Rattle.copies.specs.declared.KeptNumbers.{KeptNumbers}
-use Rattle.copies.specs.declared.KeptRules.{KeptRules}
 
 -- A rule is kept for a copy of a: a is its head, and its positive atoms of a's component are among those whose latest copy keeps a rule.
 unfoldable pub keeps : ℕ → ℕ → ℕ → ℕ → ℕ → Bool
@@ -34,10 +33,11 @@ pub record ListedAt (entries : List ℕ) (j r : ℕ) : Type 0 where
   pub is : r ≡ getD entries j 0
   pub low : r < 192
 
--- The rules kept for a copy of a.
-pub record Kept (heads pos : List ℕ) (rules a component keeping : ℕ) (r : KeptRules) : Type 0 where
-  pub entries : map (λ j. getD (r .entries) j 0) (range 0 (r .rules)) ≡ keptEntries heads pos rules a component keeping
-  pub inside : Inside (r .entries) (r .rules)
+-- The entries of the rules kept for a copy of a are the first k that are listed.
+pub record Kept (heads pos : List ℕ) (rules a component keeping : ℕ) (entries : List ℕ) (k : ℕ) : Type 0 where
+  pub long : length entries ≡ 192
+  pub are : map (λ j. getD entries j 0) (range 0 k) ≡ keptEntries heads pos rules a component keeping
+  pub inside : Inside entries k
 
 -- Sizes that bodies have.
 pub record SmallSizes (sizes : List ℕ) : Type 0 where

@@ -7,8 +7,7 @@ use lib.ListN.{length}
 use Rattle.lists.specs.Lists.{below}
 use Rattle.unfolding.specs.Unfolded.{Unfolded, unfolded}
 use Rattle.sheet.specs.Sequence.{entries}
-use Rattle.program.specs.inner.Held.{programIn, Readable}
-use Rattle.program.specs.declared.ProgramTable.{ProgramTable}
+use Rattle.program.specs.inner.Held.{ProgramTable, programIn, Readable}
 use Rattle.components.specs.inner.Reachability.{NamesOf, SetsOf}
 
 pub record Ready (t : ProgramTable) (names sets q : List ℕ) : Type 0 where

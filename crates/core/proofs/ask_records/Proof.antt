@@ -1,6 +1,6 @@
+-- `core::ask_records` meets its contract, one law for each way through it.
 use native.Mathlib.Omega.{arith}
-use Rattle.core.proofs.Asking.{asked-header, asked-long, asked-atoms, asked-count, asked-records, asked-sum, asked-crowded, asked-low, asked-expandable, asked-wide, asked-fine}
-use borrow.Author.Tests.{not-true, not-false}
+use Rattle.core.proofs.Asking.{asked-header, asked-long, asked-atoms, asked-count, asked-records, asked-sum, asked-crowded, asked-low, asked-expandable, asked-large, asked-fine}
 use borrow.Author.Needs.{needs}
 use Rattle.core.proofs.ask_records.Statement.{statement}
 use Rattle.core.proofs.ask_records.Tie as tie
@@ -37,37 +37,44 @@ returns-3 c = search (needs, asked-crowded)
 
 edges-of-requires : tie.Need-edges-of-requires
 edges-of-requires c κs =
-    let choice = c .before .before .before .before .before .before in
+    let choice = c .before .before .before .before .before .before .before in
     let records = choice .before .before .before in
     let header = records .before .before .before .before .before .before .before in
-    asked-expandable _ _ (header .before .before .pre .0) _ (header .read-header .ensures) _ _ _ _ (records .before .before .before .before .before .if1 .left) _ (records .read-records .ensures) (choice .before .before .if2 .left) _ (choice .choices-in .ensures) (search needs)
+    (asked-expandable _ _ (header .before .before .pre .0) _ (header .read-header .ensures) _ _ _ _ (records .before .before .before .before .before .if1 .left) _ (records .read-records .ensures) (choice .before .before .if2 .left) _ (choice .choices-in .ensures) (omega (arith, c .before .before .before .before .before .if3 .left)), header .before .before .pre .2 .edges)
 
 components-of-requires : tie.Need-components-of-requires
-components-of-requires c κs = search (needs, asked-low)
-
-fits-requires : tie.Need-fits-requires
-fits-requires c κs =
-    let choice = c .before .before .before .before .before .before .before .before .before .before .before in
+components-of-requires c κs =
+    let choice = c .before .before .before .before .before .before .before .before .before .before .before .before in
     let records = choice .before .before .before in
     let header = records .before .before .before .before .before .before .before in
-    asked-low _ _ (header .before .before .pre .0) _ (header .read-header .ensures) _ _ _ _ (records .before .before .before .before .before .if1 .left) _ (records .read-records .ensures) (choice .before .before .if2 .left) _ (choice .choices-in .ensures) (omega (arith, c .before .before .before .before .before .before .before .before .before .if3 .left))
+    (asked-low _ _ (header .before .before .pre .0) _ (header .read-header .ensures) _ _ _ _ (records .before .before .before .before .before .if1 .left) _ (records .read-records .ensures) (choice .before .before .if2 .left) _ (choice .choices-in .ensures) (omega (arith, c .before .before .before .before .before .before .before .before .before .before .if3 .left)), c .before .before .before .before .edges-of .ensures .long, header .before .before .pre .2 .names, header .before .before .pre .2 .sets)
+
+largest-requires : tie.Need-largest-requires
+largest-requires c κs =
+    let choice = c .before .before .before .before .before .before .before .before .before .before .before .before .before .before in
+    let records = choice .before .before .before in
+    let header = records .before .before .before .before .before .before .before in
+    asked-low _ _ (header .before .before .pre .0) _ (header .read-header .ensures) _ _ _ _ (records .before .before .before .before .before .if1 .left) _ (records .read-records .ensures) (choice .before .before .if2 .left) _ (choice .choices-in .ensures) (omega (arith, c .before .before .before .before .before .before .before .before .before .before .before .before .if3 .left))
+
+component-refusal-requires : tie.Need-component-refusal-requires
+component-refusal-requires c κs = search needs
 
 refused-requires-4 : tie.Need-refused-requires-4
 refused-requires-4 c κs = search needs
 
 returns-4 : tie.Need-returns-4
 returns-4 c =
-    let choice = c .before .before .before .before .before .before .before .before .before .before .before .before .before .before in
+    let choice = c .before .before .before .before .before .before .before .before .before .before .before .before .before .before .before .before .before .before in
     let records = choice .before .before .before in
     let header = records .before .before .before .before .before .before .before in
-    asked-wide _ _ (header .before .before .pre .0) _ (header .read-header .ensures) _ _ _ _ (records .before .before .before .before .before .if1 .left) _ (records .read-records .ensures) (choice .before .before .if2 .left) _ (choice .choices-in .ensures) (omega (arith, c .before .before .before .before .before .before .before .before .before .before .before .before .if3 .left)) _ (c .before .before .before .before .before .before .before .edges-of .ensures) _ (c .before .before .before .before .before .components-of .ensures) _ (c .before .before .fits2 .ensures) _ (search (needs, not-true)) (c .refused4 .ensures)
+    asked-large _ _ (header .before .before .pre .0) _ (header .read-header .ensures) _ _ _ _ (records .before .before .before .before .before .if1 .left) _ (records .read-records .ensures) (choice .before .before .if2 .left) _ (choice .choices-in .ensures) (omega (arith, c .before .before .before .before .before .before .before .before .before .before .before .before .before .before .before .before .if3 .left)) _ _ _ (c .before .before .before .before .before .before .before .before .before .before .edges-of .ensures) (c .before .before .before .before .before .components-of .ensures) _ (c .before .before .before .largest .ensures) _ _ (c .before .before .component-refusal .ensures) (search needs) (c .refused4 .ensures)
 
 returns-5 : tie.Need-returns-5
 returns-5 c =
-    let choice = c .before .before .before .before .before .before .before .before .before .before .before .before .before in
+    let choice = c .before .before .before .before .before .before .before .before .before .before .before .before .before .before .before .before .before in
     let records = choice .before .before .before in
     let header = records .before .before .before .before .before .before .before in
-    asked-fine _ _ (header .before .before .pre .0) _ (header .read-header .ensures) _ _ _ _ (records .before .before .before .before .before .if1 .left) _ (records .read-records .ensures) (choice .before .before .if2 .left) _ (choice .choices-in .ensures) (omega (arith, c .before .before .before .before .before .before .before .before .before .before .before .if3 .left)) _ (c .before .before .before .before .before .before .edges-of .ensures) _ (c .before .before .before .before .components-of .ensures) _ (c .before .fits2 .ensures) (search (needs, not-false))
+    asked-fine _ _ (header .before .before .pre .0) _ (header .read-header .ensures) _ _ _ _ (records .before .before .before .before .before .if1 .left) _ (records .read-records .ensures) (choice .before .before .if2 .left) _ (choice .choices-in .ensures) (omega (arith, c .before .before .before .before .before .before .before .before .before .before .before .before .before .before .before .if3 .left)) _ _ _ (c .before .before .before .before .before .before .before .before .before .edges-of .ensures) (c .before .before .before .before .components-of .ensures) _ (c .before .before .largest .ensures) _ (c .before .component-refusal .ensures) (search needs)
 
 pub ask-records-spec : {M : Type 1} → statement M
 ask-records-spec =
@@ -85,7 +92,8 @@ ask-records-spec =
     returns-3
     edges-of-requires
     components-of-requires
-    fits-requires
+    largest-requires
+    component-refusal-requires
     refused-requires-4
     returns-4
     returns-5)

@@ -1,3 +1,4 @@
+-- `core::components` meets its contract, one law for each way through it.
 use Rattle.core.proofs.Writing.{components-refused, components-full, names-low, names-room, components-done}
 use borrow.Author.Needs.{needs}
 use Rattle.core.proofs.components.Statement.{statement}

@@ -1,4 +1,5 @@
-use Rattle.core.proofs.Writing.{default-refused, names-low, entries-fit, blocks-room, default-full, default-done}
+-- `core::default_sequence` meets its contract, one law for each way through it.
+use Rattle.core.proofs.Writing.{default-refused, names-low, entries-fit, default-full, blocks-room, default-done}
 use borrow.Author.Needs.{needs}
 use Rattle.core.proofs.default_sequence.Statement.{statement}
 use Rattle.core.proofs.default_sequence.Tie as tie

@@ -1,3 +1,4 @@
+-- `core::find_body` meets its contract, one law for each way through it.
 use Rattle.core.proofs.Reading.{walk-accepted, body-refused, body-past, body-shown}
 use borrow.Author.Needs.{needs}
 use Rattle.core.proofs.find_body.Statement.{statement}

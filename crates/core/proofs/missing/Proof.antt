@@ -1,8 +1,9 @@
 -- `core::missing` meets its contract, one law for each way through it.
+use mathlib.Core.List.{[]}
 use Rattle.core.proofs.Asking.{sequence-long, sequence-low}
-use Rattle.core.proofs.Finding.{missing-refused, missing-small, missing-malformed, missing-low, missing-none, some-missing, missing-no-room, missing-put}
+use Rattle.core.proofs.Finding.{still-room, missing-refused, missing-small, missing-malformed, missing-low, missing-none, missing-roomy, some-missing, missing-no-room, missing-put}
 use Rattle.core.proofs.Writing.{names-low}
-use borrow.Author.Tests.{not-true, not-false}
+use Rattle.core.proofs.Finding.{missing-refused, missing-small, missing-malformed, missing-low, missing-none, missing-roomy, some-missing, missing-no-room, missing-put}
 use borrow.Author.Needs.{needs}
 use Rattle.core.proofs.missing.Statement.{statement}
 use Rattle.core.proofs.missing.Tie as tie
@@ -13,29 +14,42 @@ ask-sheet-requires c κs = search needs
 returns : tie.Need-returns
 returns c = search (needs, missing-refused)
 
-sequence-fits-requires : tie.Need-sequence-fits-requires
-sequence-fits-requires c κs = search needs
+ask-form-requires : tie.Need-ask-form-requires
+ask-form-requires c κs = search needs
 
 returns-2 : tie.Need-returns-2
-returns-2 c = search (needs, not-true, missing-malformed)
+returns-2 c = search (needs, missing-malformed)
 
 find-start-requires : tie.Need-find-start-requires
-find-start-requires c κs = search (needs, not-false, names-low, missing-small, sequence-long, sequence-low)
-
-returns-3 : tie.Need-returns-3
-returns-3 c = search (needs, not-false, missing-none)
-
-returns-4 : tie.Need-returns-4
-returns-4 c = search (needs, not-false, missing-no-room)
-
-put-missing-requires : tie.Need-put-missing-requires
-put-missing-requires c κs = (search needs, search needs, search (needs, not-false, sequence-long), search (needs, not-false, missing-low), search (needs, not-false, some-missing))
+find-start-requires c κs = search (needs, names-low, missing-small, sequence-long, sequence-low)
 
 same-length : tie.Need-same-length
 same-length c = search needs
 
+returns-3 : tie.Need-returns-3
+returns-3 c = search (needs, missing-none)
+
+same-length-2 : tie.Need-same-length-2
+same-length-2 c = search needs
+
+returns-4 : tie.Need-returns-4
+returns-4 c = search (needs, missing-no-room)
+
+put-missing-requires : tie.Need-put-missing-requires
+put-missing-requires c κs =
+    let asked = c .before .before .before .before .before .before .before .before .before .before .before .before .before .before .before .before .ask-sheet .ensures in
+    let form = c .before .before .before .before .before .before .before .before .before .before .before .before .before .before .ask-form .ensures in
+    let start = c .before .before .before .before .before .before .before .before .before .find-start .ensures in
+    (search needs, missing-roomy _ _ _ [] _ _ _ _ asked (search needs) _ form (search needs) _ start (search needs) (c .before .before .before .before .before .before .before .before .before .before .before .before .before .before .before .before .before .before .before .before .before .before .before .before .pre .0) _ (still-room _ _ _ (c .before .before .before .before .before .before .before .before .before .before .before .before .before .before .before .before .before .before .before .before .before .before .before .before .pre .1) (search needs)), sequence-long _ _ [] [] _ _ form (search needs), missing-low _ _ _ [] _ _ _ _ asked (search needs) _ form (search needs), some-missing _ _ _ [] _ _ _ _ asked (search needs) _ form (search needs) _ start (search needs))
+
+same-length-3 : tie.Need-same-length-3
+same-length-3 c = search needs
+
+same-length-4 : tie.Need-same-length-4
+same-length-4 c = search needs
+
 returns-5 : tie.Need-returns-5
-returns-5 c = search (needs, not-false, missing-put)
+returns-5 c = search (needs, missing-put)
 
 pub missing-spec : {M : Type 1} → statement M
 missing-spec =
@@ -43,11 +57,14 @@ missing-spec =
     (tie.spec
     ask-sheet-requires
     returns
-    sequence-fits-requires
+    ask-form-requires
     returns-2
     find-start-requires
+    same-length
     returns-3
+    same-length-2
     returns-4
     put-missing-requires
-    same-length
+    same-length-3
+    same-length-4
     returns-5)

@@ -1,3 +1,4 @@
+-- `core::read` meets its contract, one law for each way through it.
 use Rattle.core.proofs.Reading.{read-refused, read-header}
 use borrow.Author.Needs.{needs}
 use Rattle.core.proofs.read.Statement.{statement}

@@ -1,8 +1,10 @@
 -- What the questions about a sheet and a sequence promise: the refusal, and what is known where there is none.
-use mathlib.Core.Bool.{true}
+use mathlib.Core.Bool.{true, _&&_}
 use mathlib.Core.List.{List}
 use mathlib.Core.Path.{_≡_}
-use Prim.Native.Nat.{ℕ, _≤_}
+use Prim.Native.Nat.{ℕ, _^_, _≤_}
+use lib.Dec.{leb}
+use lib.ListN.{length, replicate}
 use Rattle.asp.specs.Program.{Program}
 use Rattle.unfolding.specs.Chain.{passes}
 use Rattle.sheet.specs.Questions.{ask, _then_}
@@ -13,9 +15,9 @@ use Rattle.sheet.specs.Sheet.{records, program}
 use Rattle.sheet.specs.declared.Limits.{Limits}
 use Rattle.reader.specs.inner.Tabled.{recordsAt, ExactSets, RecordArrays}
 use Rattle.components.specs.Limit.{componentsFit}
-use Rattle.components.specs.inner.Reachability.{ComponentsOf}
+use Rattle.components.specs.inner.Reachability.{EdgesOf, ComponentsOf}
 use Rattle.chains.specs.inner.Subsets.{Graph}
-use Rattle.core.specs.Questions.{readQuestions, testQuestions}
+use Rattle.core.specs.Questions.{question16, readQuestions, testQuestions}
 use Rattle.core.specs.declared.Asked.{Asked}
 
 -- Limits that the tables have room for.
@@ -25,20 +27,22 @@ pub record Supported (L : Limits) : Type 0 where
   pub component : L .component ≤ 10
   pub entries : L .entries ≤ 640
 
--- A sheet that is not refused.
-pub record SheetAccepted (L : Limits) (s : List ℕ) (r : Asked) : Type 0 where
+-- A sheet that is not refused, with its components' names and sets.
+pub record SheetAccepted (L : Limits) (s names sets : List ℕ) (r : Asked) : Type 0 where
   pub form : formQuestions L s ≡ 0
   pub number : r .records ≡ recordsByte s
   pub written : r .written ≡ atomsByte s
   pub atoms : r .atoms ≡ program s .atoms
   pub low : r .atoms ≤ 64
-  pub graph : ComponentsOf (program s) (r .components)
+  pub graph : ComponentsOf (program s) names sets
   pub limit : componentsFit (L .component) (program s) ≡ true
+  pub taken : componentsFit (L .taken .component) (program s) ≡ true
 
--- The questions about a sheet.
-pub record SheetAsked (L : Limits) (s : List ℕ) (r : Asked) : Type 0 where
+-- The questions about a sheet, and its edges, names and sets where there is no refusal.
+pub record SheetAsked (L : Limits) (s edges names sets : List ℕ) (r : Asked) : Type 0 where
   pub says : r .refusal ≡ readQuestions L s
-  pub accepted : r .refusal ≡ 0 → SheetAccepted L s r
+  pub accepted : r .refusal ≡ 0 → SheetAccepted L s names sets r
+  pub edged : r .refusal ≡ 0 → EdgesOf (program s) edges
 
 -- The arrays hold the records of the sheet.
 pub record RecordsKept (s ks hs ps ns : List ℕ) (r : Asked) : Type 0 where
@@ -47,25 +51,44 @@ pub record RecordsKept (s ks hs ps ns : List ℕ) (r : Asked) : Type 0 where
   pub long : RecordArrays ks hs ps ns
 
 -- The questions about a sheet, and its records where there is no refusal.
-pub record RecordsAsked (L : Limits) (s ks hs ps ns : List ℕ) (r : Asked) : Type 0 where
-  pub asked : SheetAsked L s r
+pub record RecordsAsked (L : Limits) (s ks hs ps ns edges names sets : List ℕ) (r : Asked) : Type 0 where
+  pub asked : SheetAsked L s edges names sets r
   pub kept : r .refusal ≡ 0 → RecordsKept s ks hs ps ns r
+
+-- The questions about components, where the largest has so many of n atoms.
+unfoldable pub sizesAsked : Limits → ℕ → ℕ → ℕ
+sizesAsked L n largest = ask (leb largest (L .component)) 7 then ask (leb n (L .taken .atoms) && leb largest (L .taken .component)) 15
+
+-- Arrays for a graph, of 64 rows; those of the edges and of the sets are empty.
+pub record GraphArrays (es bs ns ss : List ℕ) : Type 0 where
+  pub edges : es ≡ replicate 64 0
+  pub ancestors : length bs ≡ 64
+  pub names : length ns ≡ 64
+  pub sets : ss ≡ replicate 64 0
+
+-- The questions about the form of a sequence, over n atoms.
+unfoldable pub formAsked : Limits → ℕ → List ℕ → ℕ
+formAsked L n q = ask (sequenceFits L n q) 8 then question16 L q
 
 -- The questions about a sequence, of any program of n atoms with this graph.
 pub record SequenceAsked (L : Limits) (n : ℕ) (edges sets q : List ℕ) (r : ℕ) : Type 0 where
-  pub says : (P : Program) → Graph P n edges sets → r ≡ ask (sequenceFits L n q) 8 then ask (passes P (entries q)) 9
+  pub says : (P : Program) → Graph P n edges sets → r ≡ formAsked L n q then ask (passes P (entries q)) 9
+
+-- A table with a row for each set of a component's atoms.
+abbrev pub TableFor : Limits → List ℕ → Type 0
+TableFor L table = 2 ^ L .taken .component ≤ length table
 
 -- A sheet and a sequence that are not refused.
-pub record BothAccepted (L : Limits) (s q : List ℕ) (r : Asked) : Type 0 where
-  pub sheet : SheetAccepted L s r
+pub record BothAccepted (L : Limits) (s q names sets : List ℕ) (r : Asked) : Type 0 where
+  pub sheet : SheetAccepted L s names sets r
   pub formed : sequenceFits L (program s .atoms) q ≡ true
 
 -- The questions about a sheet and a sequence.
-pub record BothAsked (L : Limits) (s q : List ℕ) (r : Asked) : Type 0 where
+pub record BothAsked (L : Limits) (s q names sets : List ℕ) (r : Asked) : Type 0 where
   pub says : r .refusal ≡ testQuestions L s q
-  pub accepted : r .refusal ≡ 0 → BothAccepted L s q r
+  pub accepted : r .refusal ≡ 0 → BothAccepted L s q names sets r
 
 -- The same, with the records of the sheet.
-pub record BothKept (L : Limits) (s q ks hs ps ns : List ℕ) (r : Asked) : Type 0 where
-  pub asked : BothAsked L s q r
+pub record BothKept (L : Limits) (s q ks hs ps ns names sets : List ℕ) (r : Asked) : Type 0 where
+  pub asked : BothAsked L s q names sets r
   pub kept : r .refusal ≡ 0 → RecordsKept s ks hs ps ns r

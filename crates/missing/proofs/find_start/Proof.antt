@@ -1,18 +1,19 @@
 -- `missing::find_start` meets its contract, one law for each way through it.
+use mathlib.Core.Path.{_≡_}
 use Prim.Native.Nat.{_-_}
-use borrow.Author.Needs.{needs}
-use lib.ListN.{drop}
-use Rattle.missing.proofs.find_start.Statement.{statement}
+use lib.ListN.{length, drop}
 use Rattle.lists.proofs.Members.{below-more}
-use Rattle.chains.proofs.Components.{few-atoms, entries-low, entries-gathered}
+use Rattle.chains.proofs.Components.{component-roomy, entries-low, entries-gathered}
 use Rattle.missing.proofs.Starts.{StartSofar, sofar-start, sofar-turn, sofar-end}
+use borrow.Author.Needs.{needs}
+use Rattle.missing.proofs.find_start.Statement.{statement}
 use Rattle.missing.proofs.find_start.Tie as tie
 
 abbrev Inv-loop : tie.InvT-loop
-Inv-loop n rows sets q entries best₀ c₀ best c = StartSofar n rows sets (drop 3 q) c best
+Inv-loop table₀ n rows sets q entries best₀ c₀ table best c = StartSofar n rows sets (drop 3 q) c best × (length table ≡ length table₀)
 
 abbrev μ-loop : tie.MeasureT-loop
-μ-loop n rows sets q entries best₀ c₀ best c = n - c
+μ-loop table₀ n rows sets q entries best₀ c₀ table best c = n - c
 
 sub-gather : tie.Need-sub-gather Inv-loop μ-loop
 sub-gather c = search needs
@@ -39,7 +40,7 @@ element-copy-out-improved : tie.Need-element-copy-out-improved Inv-loop μ-loop
 element-copy-out-improved c = search needs
 
 improved-requires : tie.Need-improved-requires Inv-loop μ-loop
-improved-requires c κs = search (needs, few-atoms, below-more, entries-gathered)
+improved-requires c κs = search (needs, component-roomy, below-more, entries-gathered)
 
 add-c : tie.Need-add-c Inv-loop μ-loop
 add-c c = search needs
@@ -49,6 +50,9 @@ loop-less c = search needs
 
 loop-again : tie.Need-loop-again Inv-loop μ-loop
 loop-again c = search (needs, sofar-turn)
+
+same-length : tie.Need-same-length Inv-loop μ-loop
+same-length c = search needs
 
 returns : tie.Need-returns Inv-loop μ-loop
 returns c = search (needs, sofar-end)
@@ -71,4 +75,5 @@ find-start-spec =
     add-c
     loop-less
     loop-again
+    same-length
     returns)

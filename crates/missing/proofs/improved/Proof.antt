@@ -1,11 +1,14 @@
 -- `missing::improved` meets its contract, one law for each way through it.
+use Rattle.missing.proofs.Starts.{improved-found, improved-lacking}
 use borrow.Author.Needs.{needs}
 use Rattle.missing.proofs.improved.Statement.{statement}
-use Rattle.missing.proofs.Starts.{improved-found, improved-lacking}
 use Rattle.missing.proofs.improved.Tie as tie
 
-found-alone-requires : tie.Need-found-alone-requires
-found-alone-requires c κs = search needs
+size-requires : tie.Need-size-requires
+size-requires c κs = search needs
+
+subset-requires : tie.Need-subset-requires
+subset-requires c κs = search needs
 
 returns : tie.Need-returns
 returns c = search (needs, improved-found)
@@ -16,10 +19,20 @@ component-start-requires c κs = search needs
 earlier-requires : tie.Need-earlier-requires
 earlier-requires c κs = search needs
 
+same-length : tie.Need-same-length
+same-length c = search needs
+
 returns-2 : tie.Need-returns-2
 returns-2 c = search (needs, improved-lacking)
 
 pub improved-spec : {M : Type 1} → statement M
 improved-spec =
     tie.close
-    (tie.spec found-alone-requires returns component-start-requires earlier-requires returns-2)
+    (tie.spec
+    size-requires
+    subset-requires
+    returns
+    component-start-requires
+    earlier-requires
+    same-length
+    returns-2)

@@ -1,8 +1,8 @@
 -- `missing::lacking_in` meets its contract, one law for each way through it.
-use borrow.Author.Needs.{needs}
 use borrow.Author.Tests.{not-true, not-false}
-use Rattle.missing.proofs.lacking_in.Statement.{statement}
 use Rattle.missing.proofs.Rows.{lacking-outside, lacking-large, lacking-row}
+use borrow.Author.Needs.{needs}
+use Rattle.missing.proofs.lacking_in.Statement.{statement}
 use Rattle.missing.proofs.lacking_in.Tie as tie
 
 subset-requires : tie.Need-subset-requires
@@ -23,8 +23,8 @@ returns-2 c = search (needs, lacking-large)
 mul-difference : tie.Need-mul-difference
 mul-difference c = search needs
 
-element-copy-out-difference : tie.Need-element-copy-out-difference
-element-copy-out-difference c = search needs
+shared-slice-read-difference : tie.Need-shared-slice-read-difference
+shared-slice-read-difference c = search needs
 
 difference-requires : tie.Need-difference-requires
 difference-requires c κs = search needs
@@ -42,6 +42,6 @@ lacking-in-spec =
     cast-if2
     returns-2
     mul-difference
-    element-copy-out-difference
+    shared-slice-read-difference
     difference-requires
     returns-3)

@@ -1,9 +1,9 @@
 -- `missing::put_missing` meets its contract, one law for each way through it.
+use Rattle.bits.proofs.Listing.{listed-low, listed-rising}
+use Rattle.chains.proofs.Components.{places-roomy}
+use Rattle.missing.proofs.Starts.{start-fits, some-lacks, chain-written}
 use borrow.Author.Needs.{needs}
 use Rattle.missing.proofs.put_missing.Statement.{statement}
-use Rattle.bits.proofs.Listing.{listed-low, listed-rising}
-use Rattle.chains.proofs.Components.{places-few}
-use Rattle.missing.proofs.Starts.{start-fits, some-lacks, chain-written}
 use Rattle.missing.proofs.put_missing.Tie as tie
 
 list-set-requires : tie.Need-list-set-requires
@@ -12,17 +12,20 @@ list-set-requires c κs = search needs
 power-requires : tie.Need-power-requires
 power-requires c κs = search needs
 
-sub-t10 : tie.Need-sub-t10
-sub-t10 c = search needs
+sub-t11 : tie.Need-sub-t11
+sub-t11 c = search needs
 
 place-of-requires : tie.Need-place-of-requires
 place-of-requires c κs = search needs
 
 put-chain-requires : tie.Need-put-chain-requires
-put-chain-requires c κs = search (needs, places-few, listed-low, listed-rising, start-fits, some-lacks)
+put-chain-requires c κs = search (needs, places-roomy, listed-low, listed-rising, start-fits, some-lacks)
 
 same-length : tie.Need-same-length
 same-length c = search needs
+
+same-length-2 : tie.Need-same-length-2
+same-length-2 c = search needs
 
 returns : tie.Need-returns
 returns c = search (needs, chain-written)
@@ -33,8 +36,9 @@ put-missing-spec =
     (tie.spec
     list-set-requires
     power-requires
-    sub-t10
+    sub-t11
     place-of-requires
     put-chain-requires
     same-length
+    same-length-2
     returns)

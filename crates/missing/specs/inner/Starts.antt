@@ -1,5 +1,4 @@
 -- Where the shortest missing chain starts.
-use mathlib.Core.Bool.{Bool, true}
 use mathlib.Core.List.{List, _∷_, Sublistᴰ}
 use mathlib.Core.Logic.{_⊎_}
 use mathlib.Core.Path.{_≡_}
@@ -9,9 +8,7 @@ use Rattle.asp.specs.Program.{Program}
 use Rattle.unfolding.specs.Graph.{component}
 use Rattle.unfolding.specs.Chain.{Chain}
 use Rattle.unfolding.specs.Missing.{ShortestMissing}
-use Rattle.bits.specs.inner.Sets.{Gathered}
-use Rattle.bits.specs.inner.Visited.{listed}
-use Rattle.chains.specs.inner.Subsets.{Edged, Members, SetTested, Graph}
+use Rattle.chains.specs.inner.Subsets.{Edged, Members, Graph}
 use Rattle.writer.specs.inner.Wrote.{Wrote}
 use Rattle.missing.specs.declared.Start.{Start}
 
@@ -24,17 +21,12 @@ pub record Begins (P : Program) (s : List ℕ) (C : ℕ → Type 0) (r : Start) 
   pub low : r .length ≤ 64 → r .atom < P .atoms
   pub whole : r .length ≤ 64 → Members P (component P (r .atom)) (r .set)
 
--- The start's set has at most ten atoms.
-pub record FewAtoms (r : Start) : Type 0 where
-  pub few : length (listed (r .set)) ≤ 10
-
 -- No chain is missing: 65 atoms stand for none.
 abbrev pub noStart : Start
 noStart = record { length = 65; atom = 0; set = 0 }
 
 -- The start in the component with these atoms.
 pub record ComponentStart (rows : List ℕ) (x : ℕ) (s : List ℕ) (r : Start) : Type 0 where
-  pub few : FewAtoms r
   pub is : (P : Program) (c : ℕ) → Edged P rows → Members P c x → Begins P s (λ b. component P b ≡ c) r
 
 -- a is not behind b, by length and then by first atom.
@@ -45,18 +37,12 @@ NotBehind a b = (a .length < b .length) ⊎ ((a .length ≡ b .length) × (a .at
 abbrev pub Earlier : Start → Start → Start → Type 0
 Earlier a b r = ((r ≡ a) × NotBehind a b) ⊎ ((r ≡ b) × NotBehind b a)
 
--- Whether the component with these atoms is one atom at most that stands in each sequence whose set of atoms is e: then it lacks no chain.
-pub record FoundAlone (x e : ℕ) (r : Bool) : Type 0 where
-  pub is : r ≡ true → (rows s : List ℕ) → Gathered s e → SetTested rows x s true
-
 -- The start in the components named below c and in the one named c, which has these atoms, where it is `best` in those below.
 pub record Improved (best : Start) (rows : List ℕ) (x : ℕ) (s : List ℕ) (r : Start) : Type 0 where
-  pub few : FewAtoms r
   pub is : (P : Program) (c : ℕ) → Edged P rows → Members P c x → Begins P s (λ b. component P b < c) best → Begins P s (λ b. component P b < c + 1) r
 
 -- The start in the whole program.
 pub record StartOf (n : ℕ) (rows sets s : List ℕ) (r : Start) : Type 0 where
-  pub few : FewAtoms r
   pub is : (P : Program) → Graph P n rows sets → Begins P s (λ b. b < P .atoms) r
 
 -- For some program with these edges a chain is missing and starts there.

@@ -1,17 +1,20 @@
 -- `office::test` meets its contract, one law for each way through it.
 use borrow.Author.Needs.{needs}
-use Rattle.office.proofs.Laws.{supported}
+use Rattle.office.proofs.Laws.{supported, table-room}
 use Rattle.office.proofs.test.Statement.{statement}
 use Rattle.office.proofs.test.Tie as tie
 
 limits-requires : tie.Need-limits-requires
 limits-requires c κs = search needs
 
+slice-aggregate-test : tie.Need-slice-aggregate-test
+slice-aggregate-test c = search needs
+
 test-requires : tie.Need-test-requires
-test-requires c κs = search (needs, supported)
+test-requires c κs = (search (needs, supported), table-room _ _ (c .before .limits .ensures) (search needs))
 
 returns : tie.Need-returns
-returns c = rw (c .before .limits .ensures) at (c .test .ensures)
+returns c = rw (c .before .before .before .limits .ensures) at (c .before .test .ensures)
 
 pub test-spec : {M : Type 1} → statement M
-test-spec = tie.close (tie.spec limits-requires test-requires returns)
+test-spec = tie.close (tie.spec limits-requires slice-aggregate-test test-requires returns)

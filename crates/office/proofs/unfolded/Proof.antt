@@ -1,20 +1,23 @@
 -- `office::unfolded` meets its contract, one law for each way through it.
 use borrow.Author.Needs.{needs}
-use Rattle.office.proofs.Laws.{supported}
+use Rattle.office.proofs.Laws.{supported, table-room}
 use Rattle.office.proofs.unfolded.Statement.{statement}
 use Rattle.office.proofs.unfolded.Tie as tie
 
 limits-requires : tie.Need-limits-requires
 limits-requires c κs = search needs
 
+slice-aggregate-unfolded : tie.Need-slice-aggregate-unfolded
+slice-aggregate-unfolded c = search needs
+
 unfolded-requires : tie.Need-unfolded-requires
-unfolded-requires c κs = search (needs, supported)
+unfolded-requires c κs = (search (needs, supported), table-room _ _ (c .before .before .limits .ensures) (search needs))
 
 same-length : tie.Need-same-length
 same-length c = search needs
 
 returns : tie.Need-returns
-returns c = rw (c .before .before .before .before .limits .ensures) at (c .before .before .unfolded .ensures)
+returns c = rw (c .before .before .before .before .before .before .limits .ensures) at (c .before .before .before .unfolded .ensures)
 
 pub unfolded-spec : {M : Type 1} → statement M
-unfolded-spec = tie.close (tie.spec limits-requires unfolded-requires same-length returns)
+unfolded-spec = tie.close (tie.spec limits-requires slice-aggregate-unfolded unfolded-requires same-length returns)

@@ -1,34 +1,17 @@
--- `rulesheet::rulesheet_count` meets its contract, one law for each way through it.
+-- `rulesheet::rulesheet_count` meets its contract: its answer is stored.
 use borrow.Author.Needs.{needs}
-use Rattle.rulesheet.proofs.Laws.{count-no, count-yes}
+use Rattle.interface.proofs.Returning.{count-returned}
 use Rattle.rulesheet.proofs.rulesheet_count.Statement.{statement}
 use Rattle.rulesheet.proofs.rulesheet_count.Tie as tie
 
 count-requires : tie.Need-count-requires
 count-requires c κs = search needs
 
-enum-known-answer : tie.Need-enum-known-answer
-enum-known-answer c = search needs
-
-enum-known-answer-2 : tie.Need-enum-known-answer-2
-enum-known-answer-2 c = search needs
-
-verdict-code-requires : tie.Need-verdict-code-requires
-verdict-code-requires c κs = search needs
+store-count-requires : tie.Need-store-count-requires
+store-count-requires c κs = search needs
 
 returns : tie.Need-returns
-returns c = search (needs, count-no)
-
-returns-2 : tie.Need-returns-2
-returns-2 c = search (needs, count-yes)
+returns c = search (needs, count-returned)
 
 pub rulesheet-count-spec : {M : Type 1} → statement M
-rulesheet-count-spec =
-    tie.close
-    (tie.spec
-    count-requires
-    enum-known-answer
-    enum-known-answer-2
-    verdict-code-requires
-    returns
-    returns-2)
+rulesheet-count-spec = tie.close (tie.spec count-requires store-count-requires returns)

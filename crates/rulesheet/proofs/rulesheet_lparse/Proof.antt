@@ -1,38 +1,21 @@
--- `rulesheet::rulesheet_lparse` meets its contract, one law for each way through it.
+-- `rulesheet::rulesheet_lparse` meets its contract: its answer is stored.
 use borrow.Author.Needs.{needs}
-use Rattle.rulesheet.proofs.Laws.{lparse-no, lparse-yes}
+use Rattle.interface.proofs.Returning.{lparse-returned}
 use Rattle.rulesheet.proofs.rulesheet_lparse.Statement.{statement}
 use Rattle.rulesheet.proofs.rulesheet_lparse.Tie as tie
 
 lparse-requires : tie.Need-lparse-requires
 lparse-requires c κs = search needs
 
-enum-known-answer : tie.Need-enum-known-answer
-enum-known-answer c = search needs
-
-enum-known-answer-2 : tie.Need-enum-known-answer-2
-enum-known-answer-2 c = search needs
+store-length-requires : tie.Need-store-length-requires
+store-length-requires c κs = search needs
 
 same-length : tie.Need-same-length
 same-length c = search needs
 
 returns : tie.Need-returns
-returns c = search (needs, lparse-no)
-
-same-length-2 : tie.Need-same-length-2
-same-length-2 c = search needs
-
-returns-2 : tie.Need-returns-2
-returns-2 c = search (needs, lparse-yes)
+returns c = search (needs, lparse-returned)
 
 pub rulesheet-lparse-spec : {M : Type 1} → statement M
 rulesheet-lparse-spec =
-    tie.close
-    (tie.spec
-    lparse-requires
-    enum-known-answer
-    enum-known-answer-2
-    same-length
-    returns
-    same-length-2
-    returns-2)
+    tie.close (tie.spec lparse-requires store-length-requires same-length returns)

@@ -9,20 +9,20 @@ use Rattle.translation.proofs.program_of.Statement.{statement}
 use Rattle.translation.proofs.program_of.Tie as tie
 
 abbrev Inv-loop : tie.InvT-loop
-Inv-loop n m kinds record-heads record-pos record-neg heads₀ pos₀ neg₀ added₀ fresh₀ rules₀ j₀ heads pos neg added fresh rules j =
-    Ruling n (table m kinds record-heads record-pos record-neg) j fresh (entries rules heads pos neg added)
+Inv-loop n m kinds record-heads record-pos neg heads₀ pos₀ sources₀ added₀ fresh₀ rules₀ j₀ heads pos sources added fresh rules j =
+    Ruling n (table m kinds record-heads record-pos neg) j fresh (entries rules heads pos sources added)
 
 abbrev μ-loop : tie.MeasureT-loop
-μ-loop n m kinds record-heads record-pos record-neg heads₀ pos₀ neg₀ added₀ fresh₀ rules₀ j₀ heads pos neg added fresh rules j =
+μ-loop n m kinds record-heads record-pos neg heads₀ pos₀ sources₀ added₀ fresh₀ rules₀ j₀ heads pos sources added fresh rules j =
     m - j
 
 abbrev Inv-loop2 : tie.InvT-loop2
-Inv-loop2 n m kinds record-heads record-pos record-neg heads₀ pos₀ neg₀ added₀ fresh rules j all₀ i₀ heads pos neg added all i =
-    Constraining n (table m kinds record-heads record-pos record-neg) rules i (entries all heads pos neg added)
-    × (fresh ≡ n + choices (recordsIn (table m kinds record-heads record-pos record-neg)))
+Inv-loop2 n m kinds record-heads record-pos neg heads₀ pos₀ sources₀ added₀ fresh rules j all₀ i₀ heads pos sources added all i =
+    Constraining n (table m kinds record-heads record-pos neg) rules i (entries all heads pos sources added)
+    × (fresh ≡ n + choices (recordsIn (table m kinds record-heads record-pos neg)))
 
 abbrev μ-loop2 : tie.MeasureT-loop2
-μ-loop2 n m kinds record-heads record-pos record-neg heads₀ pos₀ neg₀ added₀ fresh rules j all₀ i₀ heads pos neg added all i =
+μ-loop2 n m kinds record-heads record-pos neg heads₀ pos₀ sources₀ added₀ fresh rules j all₀ i₀ heads pos sources added all i =
     m - i
 
 loop-holds : tie.Need-loop-holds Inv-loop μ-loop Inv-loop2 μ-loop2
@@ -31,8 +31,11 @@ loop-holds c = search (needs, ruling-start)
 record-at-requires : tie.Need-record-at-requires Inv-loop μ-loop Inv-loop2 μ-loop2
 record-at-requires c κs = search needs
 
+cast-store-rules : tie.Need-cast-store-rules Inv-loop μ-loop Inv-loop2 μ-loop2
+cast-store-rules c = search needs
+
 store-rules-requires : tie.Need-store-rules-requires Inv-loop μ-loop Inv-loop2 μ-loop2
-store-rules-requires c κs = (search (needs, ruling-room), search (needs, ruling-fresh))
+store-rules-requires c κs = (search (needs, ruling-room), search (needs, ruling-fresh), search needs)
 
 wide-requires : tie.Need-wide-requires Inv-loop μ-loop Inv-loop2 μ-loop2
 wide-requires c κs = search needs
@@ -47,13 +50,16 @@ loop-less : tie.Need-loop-less Inv-loop μ-loop Inv-loop2 μ-loop2
 loop-less c = search needs
 
 loop-again : tie.Need-loop-again Inv-loop μ-loop Inv-loop2 μ-loop2
-loop-again c = ruling-turn _ _ (c .before .before .before .before .before .before .before .before .before .before .pre) _ _ _ (c .before .before .before .before .before .before .before .before .before .loop .inv) (search needs) _ (c .before .before .before .before .before .before .before .record-at .ensures) _ _ (c .before .wide .ensures) (c .next-fresh .ensures) _ (c .before .before .store-rules .ensures)
+loop-again c = ruling-turn _ _ (c .before .before .before .before .before .before .before .before .before .before .pre .0) _ _ _ (c .before .before .before .before .before .before .before .before .before .loop .inv) (search needs) _ (c .before .before .before .before .before .before .before .record-at .ensures) _ _ (c .before .wide .ensures) (c .next-fresh .ensures) _ (c .before .before .store-rules .ensures)
 
 loop2-holds : tie.Need-loop2-holds Inv-loop μ-loop Inv-loop2 μ-loop2
-loop2-holds c = (constraining-start _ _ (c .before .before .pre) _ _ _ (c .before .loop .inv) (search needs), all-atoms _ _ (c .before .before .pre) _ _ _ (c .before .loop .inv) (search needs))
+loop2-holds c = (constraining-start _ _ (c .before .before .pre .0) _ _ _ (c .before .loop .inv) (search needs), all-atoms _ _ (c .before .before .pre .0) _ _ _ (c .before .loop .inv) (search needs))
 
 record-at-requires-2 : tie.Need-record-at-requires-2 Inv-loop μ-loop Inv-loop2 μ-loop2
 record-at-requires-2 c κs = search needs
+
+cast-store-constraint : tie.Need-cast-store-constraint Inv-loop μ-loop Inv-loop2 μ-loop2
+cast-store-constraint c = search needs
 
 store-constraint-requires : tie.Need-store-constraint-requires Inv-loop μ-loop Inv-loop2 μ-loop2
 store-constraint-requires c κs = search (needs, constraining-room)
@@ -65,13 +71,13 @@ loop2-less : tie.Need-loop2-less Inv-loop μ-loop Inv-loop2 μ-loop2
 loop2-less c = search needs
 
 loop2-again : tie.Need-loop2-again Inv-loop μ-loop Inv-loop2 μ-loop2
-loop2-again c = (constraining-turn _ _ (c .before .before .before .before .before .before .before .before .before .before .pre) _ _ _ (c .before .before .before .before .before .before .before .loop2 .inv .0) (search needs) _ (c .before .before .before .before .before .record-at2 .ensures) _ (c .store-constraint .ensures), c .before .before .before .before .before .before .before .loop2 .inv .1)
+loop2-again c = (constraining-turn _ _ (c .before .before .before .before .before .before .before .before .before .before .pre .0) _ _ _ (c .before .before .before .before .before .before .before .loop2 .inv .0) (search needs) _ (c .before .before .before .before .before .record-at2 .ensures) _ (c .store-constraint .ensures), c .before .before .before .before .before .before .before .loop2 .inv .1)
 
-sub-t29 : tie.Need-sub-t29 Inv-loop μ-loop Inv-loop2 μ-loop2
-sub-t29 c = constraints-behind _ _ (c .before .before .before .before .pre) _ _ _ (c .before .loop2 .inv .0) (search needs)
+sub-t31 : tie.Need-sub-t31 Inv-loop μ-loop Inv-loop2 μ-loop2
+sub-t31 c = constraints-behind _ _ (c .before .before .before .before .pre .0) _ _ _ (c .before .loop2 .inv .0) (search needs)
 
 returns : tie.Need-returns Inv-loop μ-loop Inv-loop2 μ-loop2
-returns c = translated _ _ (c .before .before .before .before .pre) _ _ _ (c .before .loop2 .inv .0) (search needs) _ (c .before .loop2 .inv .1)
+returns c = (translated _ _ (c .before .before .before .before .pre .0) _ _ _ (c .before .loop2 .inv .0) (search needs) _ (c .before .loop2 .inv .1), c .before .loop2 .inv .0 .long .sources)
 
 pub program-of-spec : {M : Type 1} → statement M
 program-of-spec =
@@ -83,6 +89,7 @@ program-of-spec =
     μ-loop2
     loop-holds
     record-at-requires
+    cast-store-rules
     store-rules-requires
     wide-requires
     next-fresh-requires
@@ -91,9 +98,10 @@ program-of-spec =
     loop-again
     loop2-holds
     record-at-requires-2
+    cast-store-constraint
     store-constraint-requires
     add-i
     loop2-less
     loop2-again
-    sub-t29
+    sub-t31
     returns)

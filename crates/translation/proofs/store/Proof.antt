@@ -12,11 +12,8 @@ mul-pos c = search needs
 element-write-pos : tie.Need-element-write-pos
 element-write-pos c = search needs
 
-mul-neg : tie.Need-mul-neg
-mul-neg c = search needs
-
-element-write-neg : tie.Need-element-write-neg
-element-write-neg c = search needs
+element-write-sources : tie.Need-element-write-sources
+element-write-sources c = search needs
 
 element-write-added : tie.Need-element-write-added
 element-write-added c = search needs
@@ -34,8 +31,7 @@ store-spec =
     element-write-heads
     mul-pos
     element-write-pos
-    mul-neg
-    element-write-neg
+    element-write-sources
     element-write-added
     add-result
     returns)

@@ -22,8 +22,8 @@ added-atom-requires c κs = search (needs, fresh-low)
 store-requires-2 : tie.Need-store-requires-2
 store-requires-2 c κs = search (needs, choice-room)
 
-cast-t19 : tie.Need-cast-t19
-cast-t19 c = search needs
+cast-t20 : tie.Need-cast-t20
+cast-t20 c = search needs
 
 added-atom-requires-2 : tie.Need-added-atom-requires-2
 added-atom-requires-2 c κs = search (needs, choice-low)
@@ -32,7 +32,7 @@ store-requires-3 : tie.Need-store-requires-3
 store-requires-3 c κs =
     let second = c .before .before .before .before .before in
     let choice = second .before .before .before .before .before .before .before in
-    choice-second _ _ _ (choice .before .before .wide .ensures) _ (choice .before .before .before .pre .0) (search needs) _ _ (second .store2 .ensures)
+    (choice-second _ _ _ _ (choice .before .before .wide .ensures) _ (choice .before .before .before .pre .0) (search needs) _ _ (second .store2 .ensures), choice .before .before .before .pre .2)
 
 returns-2 : tie.Need-returns-2
 returns-2 c =
@@ -40,7 +40,7 @@ returns-2 c =
     let second = other .before in
     let first = second .before .before .before .before .before in
     let start = first .before .before .before .before .before in
-    choice-stored _ _ _ (first .before .before .before .before .wide .ensures) _ (start .pre .0) (search needs) _ _ _ (first .added-atom .ensures) (first .before .wide2 .ensures) (other .added-atom2 .ensures) (search (needs, fresh-low)) _ _ (second .store2 .ensures) (c .store3 .ensures)
+    choice-stored _ _ _ _ (first .before .before .before .before .wide .ensures) _ (start .pre .0) (search needs) _ _ _ (first .added-atom .ensures) (first .before .wide2 .ensures) (other .added-atom2 .ensures) (search (needs, fresh-low)) _ _ (second .store2 .ensures) (c .store3 .ensures)
 
 returns-3 : tie.Need-returns-3
 returns-3 c = search (needs, none-stored)
@@ -55,7 +55,7 @@ store-rules-spec =
     wide-requires-2
     added-atom-requires
     store-requires-2
-    cast-t19
+    cast-t20
     added-atom-requires-2
     store-requires-3
     returns-2

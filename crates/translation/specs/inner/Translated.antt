@@ -4,42 +4,46 @@ use mathlib.Core.List.{List, [], _∷_, map, _++_}
 use mathlib.Core.Path.{_≡_}
 use Prim.Native.Nat.{ℕ, _+_, _≤_}
 use lib.Dec.{eqb}
-use lib.ListN.{length}
+use lib.ListN.{length, getD}
 use Rattle.lists.specs.Lists.{filter}
 use Rattle.asp.specs.Program.{Rule}
 use Rattle.bits.specs.inner.Visited.{listed}
 use Rattle.sheet.specs.Sheet.{Record, ruleIn, adding, choices, programOf}
-use Rattle.program.specs.declared.ProgramTable.{ProgramTable}
-use Rattle.program.specs.inner.Held.{addedAtom, rulesAt, programIn}
+use Rattle.program.specs.inner.Held.{ProgramTable, gathered, Sources, addedAtom, ruleOf, rulesAt, programIn}
+use Rattle.translation.specs.declared.TableEntry.{TableEntry}
 
 -- The first k entries of a table of rules and constraints.
 pub record Entries : Type 0 where
   pub k : ℕ
   pub heads : List ℕ
   pub pos : List ℕ
-  pub neg : List ℕ
+  pub sources : List ℕ
   pub added : List ℕ
 
 abbrev pub entries : ℕ → List ℕ → List ℕ → List ℕ → List ℕ → Entries
-entries k hs ps ns ads = record { k = k; heads = hs; pos = ps; neg = ns; added = ads }
+entries k hs ps ss ads = record { k = k; heads = hs; pos = ps; sources = ss; added = ads }
 
--- Their heads and bodies.
-unfoldable pub entriesIn : Entries → List Rule
-entriesIn e = rulesAt (e .heads) (e .pos) (e .neg) (e .added) 0 (e .k)
+-- Their heads and bodies, with the negative atoms that stand at the sources.
+unfoldable pub entriesIn : List ℕ → Entries → List Rule
+entriesIn neg e = rulesAt (e .heads) (e .pos) (gathered (e .sources) neg) (e .added) 0 (e .k)
 
 -- Arrays of 192 with room for so many entries more.
 pub record Room (more : ℕ) (e : Entries) : Type 0 where
   pub heads : length (e .heads) ≡ 192
   pub pos : length (e .pos) ≡ 192
-  pub neg : length (e .neg) ≡ 192
+  pub sources : Sources (e .sources)
   pub added : length (e .added) ≡ 192
   pub room : e .k + more ≤ 192
 
--- The entries e, with more behind them.
-pub record Appended (e : Entries) (more : List Rule) (r : Entries) : Type 0 where
+-- The entries e, with more behind them, where a set of negative atoms stands at the source.
+pub record Appended (source set : ℕ) (e : Entries) (more : List Rule) (r : Entries) : Type 0 where
   pub long : Room 0 r
-  pub is : entriesIn r ≡ entriesIn e ++ more
+  pub is : (neg : List ℕ) → getD neg source 0 ≡ set → entriesIn neg r ≡ entriesIn neg e ++ more
   pub size : r .k ≡ e .k + length more
+
+-- The entries e, with the entry x behind them, whatever stands at its source.
+pub record Entered (e : Entries) (x : TableEntry) (r : Entries) : Type 0 where
+  pub appended : (set : ℕ) → Appended (x .source) set e (ruleOf (x .head) (x .pos) set (x .added) ∷ []) r
 
 -- What is entered for the atom a, which is added to the negative ones.
 pub record AddedTo (neg a r : ℕ) : Type 0 where

@@ -1,15 +1,16 @@
 -- `unfolded_output::put_listed` meets its contract, one law for each way through it.
 use borrow.Author.Needs.{needs}
+use Rattle.program.specs.inner.Held.{gathered}
 use Rattle.unfolded_output.proofs.Body.{ListedLeft, listed-start, listed-room, listed-turn, listed-length, listed-end}
 use Prim.Native.Nat.{_-_}
 use Rattle.unfolded_output.proofs.put_listed.Statement.{statement}
 use Rattle.unfolded_output.proofs.put_listed.Tie as tie
 
 abbrev Inv-loop : tie.InvT-loop
-Inv-loop out₀ at entries k pos neg added vars lasts next₀ j₀ out next j = ListedLeft pos neg added vars entries out₀ at k out next j
+Inv-loop out₀ at entries k pos sources neg added vars lasts next₀ j₀ out next j = ListedLeft pos (gathered sources neg) added vars entries out₀ at k out next j
 
 abbrev μ-loop : tie.MeasureT-loop
-μ-loop out₀ at entries k pos neg added vars lasts next₀ j₀ out next j = k - j
+μ-loop out₀ at entries k pos sources neg added vars lasts next₀ j₀ out next j = k - j
 
 loop-holds : tie.Need-loop-holds Inv-loop μ-loop
 loop-holds c = search (needs, listed-start)
@@ -17,20 +18,17 @@ loop-holds c = search (needs, listed-start)
 entry-at-requires : tie.Need-entry-at-requires Inv-loop μ-loop
 entry-at-requires c κs = search needs
 
+negative-at-requires : tie.Need-negative-at-requires Inv-loop μ-loop
+negative-at-requires c κs = search needs
+
 mul-put-body : tie.Need-mul-put-body Inv-loop μ-loop
 mul-put-body c = search needs
 
 element-copy-out-put-body : tie.Need-element-copy-out-put-body Inv-loop μ-loop
 element-copy-out-put-body c = search needs
 
-mul-put-body-2 : tie.Need-mul-put-body-2 Inv-loop μ-loop
-mul-put-body-2 c = search needs
-
 element-copy-out-put-body-2 : tie.Need-element-copy-out-put-body-2 Inv-loop μ-loop
 element-copy-out-put-body-2 c = search needs
-
-element-copy-out-put-body-3 : tie.Need-element-copy-out-put-body-3 Inv-loop μ-loop
-element-copy-out-put-body-3 c = search needs
 
 put-body-requires : tie.Need-put-body-requires Inv-loop μ-loop
 put-body-requires c κs = search (needs, listed-room)
@@ -58,11 +56,10 @@ put-listed-spec =
     μ-loop
     loop-holds
     entry-at-requires
+    negative-at-requires
     mul-put-body
     element-copy-out-put-body
-    mul-put-body-2
     element-copy-out-put-body-2
-    element-copy-out-put-body-3
     put-body-requires
     add-j
     loop-less

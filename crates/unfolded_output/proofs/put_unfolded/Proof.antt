@@ -29,7 +29,13 @@ put-word-requires-2 : tie.Need-put-word-requires-2
 put-word-requires-2 c κs = search (needs, room-behind)
 
 put-entries-requires : tie.Need-put-entries-requires
-put-entries-requires c κs = (search needs, search needs, search (needs, room-constraints))
+put-entries-requires c κs =
+    let word = c .before .before .before .before .before in
+    let copies = word .before .before .before .before in
+    let first = copies .before .before .before .before .before .before in
+    let table = first .before .before in
+    let start = table .before .before .before in
+    (start .pre .0, table .last-copies .ensures, start .pre .1 .readable .few, room-constraints _ _ _ _ (start .pre .1) _ (table .last-copies .ensures) _ (start .pre .2) _ _ (first .put-word .ensures) _ _ (copies .put-copies .ensures) _ _ (word .put-word2 .ensures))
 
 same-length : tie.Need-same-length
 same-length c = search needs

@@ -10,7 +10,6 @@ use Rattle.bits.specs.inner.Visited.{listed}
 use Rattle.program.specs.inner.Held.{addedAtom}
 use Rattle.writer.specs.inner.Wrote.{Wrote}
 use Rattle.copies.specs.inner.Bodies.{bodyBy, entryBody, bodiesBy}
-use Rattle.copies.specs.declared.KeptRules.{KeptRules}
 
 -- The words of bodies, one behind the other.
 unfoldable pub bodiesWords : List Body → List ℕ
@@ -29,8 +28,8 @@ unfoldable pub entriesWords : List ℕ → List ℕ → List ℕ → List ℕ �
 entriesWords pos neg added vars from to = bodiesWords (map (entryBody pos neg added vars) (range from (to - from)))
 
 -- The words of a copy: its variable, the number of its rules, and those.
-unfoldable pub keptWords : List ℕ → List ℕ → List ℕ → List ℕ → ℕ → KeptRules → List ℕ
-keptWords pos neg added vars var kept = var ∷ kept .rules ∷ listedWords pos neg added vars (kept .entries) (kept .rules)
+unfoldable pub keptWords : List ℕ → List ℕ → List ℕ → List ℕ → ℕ → List ℕ → ℕ → List ℕ
+keptWords pos neg added vars var entries k = var ∷ k ∷ listedWords pos neg added vars entries k
 
 -- The words of all copies.
 unfoldable pub copiesWords : Unfolded → List ℕ

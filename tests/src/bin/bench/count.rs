@@ -3,9 +3,9 @@
 use crate::check;
 use crate::sheets::families;
 use crate::timing::{median, time_in_turns, time_once};
-use rulesheet_tests::binding;
 use rulesheet_tests::reference::lparse_text;
 use rulesheet_tests::report::Tally;
+use rulesheet_tests::rulesheet;
 use rulesheet_tests::sheet::Sheet;
 use std::path::Path;
 use std::process::{self, Command};
@@ -15,7 +15,7 @@ use std::{env, fs};
 const RUNS: usize = 15;
 
 pub fn count(sheet: &[u8]) -> u64 {
-    binding::count(sheet).expect("the sheet is not refused")[0]
+    rulesheet::count(sheet).expect("the sheet is not refused")[0]
 }
 
 pub fn measure(tally: &mut Tally) {

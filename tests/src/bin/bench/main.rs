@@ -1,9 +1,10 @@
 //! bench: times every operation and prints tables: the count beside clasp, the test of a sequence and the shortest missing
-//! chain beside walks over all chains, reading beside a pass over the same bytes, writing beside a fill of the same buffer.
-//! Every answer is checked.
+//! chain beside walks over all chains, reading beside a pass over the same bytes, writing beside a fill of the same buffer, and the
+//! hub beside the office. Every answer is checked.
 //! bench --one FILE: prints the count of the sheet in a file.
 
 mod count;
+mod hub;
 mod missing;
 mod reading;
 mod sheets;
@@ -32,6 +33,7 @@ fn measure() -> ! {
     reading::measure(&mut tally);
     writing::measure(&mut tally);
     text::measure(&mut tally);
+    hub::measure(&mut tally);
     println!();
     tally.finish()
 }

@@ -1,17 +1,18 @@
 //! The operations that read a sheet, beside one plain pass over its bytes.
 
 use crate::check;
-use crate::sheets::{complete, free_heads, full, sheet_a};
+use crate::sheets::{free_heads, full};
 use crate::timing::{columns, time_in_turns};
-use rulesheet_tests::binding;
+use rulesheet_tests::inputs::{complete_components, sheet_a};
 use rulesheet_tests::reference::answer;
 use rulesheet_tests::report::Tally;
+use rulesheet_tests::rulesheet;
 use rulesheet_tests::service::{Answer, Call, Operation};
 use rulesheet_tests::sheet::{rule, Sheet};
 use std::hint::black_box;
 
 /// The longest output.
-const ROOM: usize = binding::DEFAULT_ROOM;
+const ROOM: usize = rulesheet::DEFAULT_ROOM;
 const OPERATIONS: [Operation; 4] = [Operation::Read, Operation::Body, Operation::Components, Operation::Default];
 /// The sum and each operation.
 const CALLS: usize = 5;
@@ -37,7 +38,7 @@ fn rows() -> Vec<Row> {
     let mut rows = vec![
         Row::new("Sheet A", sheet_a()),
         Row::new("64 atoms, one fact", Sheet::new(64, vec![rule(0, &[], &[])])),
-        Row::new("6 complete components of 10", complete(6, 10)),
+        Row::new("6 complete components of 10", complete_components(6, 10)),
         Row::new("32 free heads", free_heads(32)),
     ];
     rows.extend(full);
@@ -72,10 +73,10 @@ impl Row {
     fn call(&mut self, which: usize) {
         match which {
             0 => drop(black_box(sum(black_box(&self.sheet)))),
-            1 => drop(black_box(binding::read(&self.sheet))),
-            2 => drop(black_box(binding::body(&self.sheet, self.last))),
-            3 => drop(black_box(binding::components(&self.sheet, &mut self.out))),
-            _ => drop(black_box(binding::default_sequence(&self.sheet, &mut self.out))),
+            1 => drop(black_box(rulesheet::read(&self.sheet))),
+            2 => drop(black_box(rulesheet::body(&self.sheet, self.last))),
+            3 => drop(black_box(rulesheet::components(&self.sheet, &mut self.out))),
+            _ => drop(black_box(rulesheet::default_sequence(&self.sheet, &mut self.out))),
         }
     }
 
@@ -97,17 +98,17 @@ fn library_answer(operation: Operation, sheet: &[u8], number: u64) -> Answer {
     let mut out = [0; ROOM];
     let slice = |offset: u64, length: u64| sheet[offset as usize..][..length as usize].to_vec();
     let answer = match operation {
-        Operation::Read => binding::read(sheet).map(|[atoms, records]| Answer::Read { atoms, records }),
-        Operation::Body => binding::body(sheet, number).map(|[positives, offset, length]| Answer::Body {
+        Operation::Read => rulesheet::read(sheet).map(|[atoms, records]| Answer::Read { atoms, records }),
+        Operation::Body => rulesheet::body(sheet, number).map(|[positives, offset, length]| Answer::Body {
             positives,
             slice: slice(offset, length),
             offset,
         }),
         Operation::Components => {
-            binding::components(sheet, &mut out).map(|[length]| Answer::Bytes(out[..length as usize].to_vec()))
+            rulesheet::components(sheet, &mut out).map(|[length]| Answer::Bytes(out[..length as usize].to_vec()))
         }
         Operation::Default => {
-            binding::default_sequence(sheet, &mut out).map(|[length]| Answer::Bytes(out[..length as usize].to_vec()))
+            rulesheet::default_sequence(sheet, &mut out).map(|[length]| Answer::Bytes(out[..length as usize].to_vec()))
         }
         other => unreachable!("{}", other.name()),
     };

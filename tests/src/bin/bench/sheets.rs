@@ -6,20 +6,6 @@ use rulesheet_tests::sheet::{choice, constraint, rule, Record, Sheet, CHOICE};
 
 const SEED: u64 = 1;
 
-/// The example of the service's description.
-pub fn sheet_a() -> Sheet {
-    Sheet::new(3, vec![rule(0, &[1], &[]), rule(1, &[0], &[]), rule(0, &[], &[2]), rule(2, &[], &[0])])
-}
-
-/// Components in which each atom has an edge to every other.
-pub fn complete(components: u8, size: u8) -> Sheet {
-    let block = |first: u8| {
-        let others = move |atom| (first..first + size).filter(|&other| other != atom).collect::<Vec<u8>>();
-        (first..first + size).map(move |atom| rule(atom, &others(atom), &[]))
-    };
-    Sheet::new(components * size, (0..components).flat_map(|place| block(place * size)).collect())
-}
-
 /// Rules for the first atoms in turn, each with every atom in both lists: those atoms are one component. As every rule names its
 /// own head, no copy of them keeps a rule.
 pub fn full(atoms: u8, heads: u8, rules: u8) -> Sheet {
@@ -81,8 +67,8 @@ pub fn late() -> Sheet {
 }
 
 /// Rules for atom 0 with every atom in both lists, but that one of them lacks its head: so the copies keep rules.
-pub fn longest() -> Sheet {
-    let mut sheet = full(64, 1, 128);
+pub fn longest(atoms: u8) -> Sheet {
+    let mut sheet = full(atoms, 1, 128);
     sheet.records[0].positives.remove(0);
     sheet
 }

@@ -1,11 +1,12 @@
 //! The lparse text, beside a fill of the same buffer.
 
 use crate::check;
-use crate::sheets::{free_heads, full_for, sheet_a, short_rules};
+use crate::sheets::{free_heads, full_for, short_rules};
 use crate::timing::{columns, time_in_turns};
-use rulesheet_tests::binding;
+use rulesheet_tests::inputs::sheet_a;
 use rulesheet_tests::reference::lparse_text;
 use rulesheet_tests::report::Tally;
+use rulesheet_tests::rulesheet;
 use rulesheet_tests::sheet::Sheet;
 use std::hint::black_box;
 
@@ -63,17 +64,17 @@ impl Row {
     /// The text must be the reference's.
     fn check(&mut self, tally: &mut Tally) {
         let name = format!("lparse, {}", self.name);
-        let written = binding::lparse(&self.sheet, &mut self.out);
+        let written = rulesheet::lparse(&self.sheet, &mut self.out);
         check(tally, &name, written == Ok([self.text.len() as u64]) && self.out == self.text.as_bytes());
-        check(tally, &name, binding::lparse(&self.sheet, &mut []) == Err(10));
+        check(tally, &name, rulesheet::lparse(&self.sheet, &mut []) == Err(10));
     }
 
     fn call(&mut self, which: usize) {
         match which {
             0 => black_box(&mut self.out).fill(black_box(1)),
-            1 => drop(black_box(binding::read(&self.sheet))),
-            2 => drop(black_box(binding::lparse(&self.sheet, &mut []))),
-            _ => drop(black_box(binding::lparse(&self.sheet, &mut self.out))),
+            1 => drop(black_box(rulesheet::read(&self.sheet))),
+            2 => drop(black_box(rulesheet::lparse(&self.sheet, &mut []))),
+            _ => drop(black_box(rulesheet::lparse(&self.sheet, &mut self.out))),
         }
     }
 

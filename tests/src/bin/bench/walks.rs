@@ -1,12 +1,13 @@
 //! The test of a sequence beside walks over all chains.
 
 use crate::check;
-use crate::sheets::complete;
 use crate::timing::{time_in_turns, time_once};
-use rulesheet_tests::binding;
+use rulesheet_tests::inputs::complete_components;
+use rulesheet_tests::limits::OFFICE;
 use rulesheet_tests::reference::{all_found, Graph};
 use rulesheet_tests::report::Tally;
-use rulesheet_tests::sequences::{padded, MOST_ENTRIES};
+use rulesheet_tests::rulesheet;
+use rulesheet_tests::sequences::padded;
 use rulesheet_tests::sheet::{sequence_bytes, Sheet};
 use std::hint::black_box;
 
@@ -26,10 +27,10 @@ pub fn measure(tally: &mut Tally) {
 /// Sequences for complete components: the default, the default with its first entry repeated up to the limit, and half
 /// of the default, which lacks chains.
 fn rows((components, size): (u8, u8)) -> [Row; 3] {
-    let sheet = complete(components, size);
+    let sheet = complete_components(components, size);
     let default = Graph::new(&sheet).default_sequence();
     let half = default[..default.len() / 2].to_vec();
-    let long = padded(&default, MOST_ENTRIES);
+    let long = padded(&default, OFFICE.entries);
     [default, long, half].map(|entries| Row::new(format!("{components} of {size}"), &sheet, entries))
 }
 
@@ -47,7 +48,7 @@ impl Row {
     }
 
     fn call(&self) -> bool {
-        binding::test(&self.sheet, &self.sequence).is_ok()
+        rulesheet::test(&self.sheet, &self.sequence).is_ok()
     }
 
     /// Runs the walks and compares the answers.

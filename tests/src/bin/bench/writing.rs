@@ -1,19 +1,21 @@
 //! The operations that write words, beside a fill of the same buffer.
 
 use crate::check;
-use crate::sheets::{complete, entered, full, late, late_cycles, longest, many_choices, sheet_a, six_components};
+use crate::sheets::{entered, full, late, late_cycles, longest, many_choices, six_components};
 use crate::timing::{columns, time_in_turns};
-use rulesheet_tests::binding;
+use rulesheet_tests::inputs::{complete_components, sheet_a};
 use rulesheet_tests::reference::{expanded, unfold, Derivation, Graph, Unfolded};
 use rulesheet_tests::report::Tally;
+use rulesheet_tests::rulesheet;
+use rulesheet_tests::service::{Call, Operation};
 use rulesheet_tests::sheet::{sequence_bytes, Sheet};
 use std::hint::black_box;
 
 pub fn measure(tally: &mut Tally) {
     let shown = &[("words", 0)];
-    Writer { name: "unfolded", call: binding::unfolded, expected: unfolded_numbers, shown }.table(tally);
+    Writer { name: "unfolded", call: rulesheet::unfolded, expected: unfolded_numbers, shown }.table(tally);
     let shown = &[("words", 0), ("clauses", 2)];
-    Writer { name: "clauses", call: binding::clauses, expected: clauses_numbers, shown }.table(tally);
+    Writer { name: "clauses", call: rulesheet::clauses, expected: clauses_numbers, shown }.table(tally);
 }
 
 /// The fill, the test, a call without room and a call.
@@ -44,7 +46,7 @@ fn inputs() -> Vec<Input> {
         eight(128, 160),
         eight(128, 320),
         eight(128, 640),
-        default("6 components of 10, no way in", complete(6, 10)),
+        default("6 components of 10, no way in", complete_components(6, 10)),
         default("6 cycles of 10, late way in", late_cycles()),
         default("6 components of 10, long rules", six_components()),
         Input {
@@ -56,7 +58,7 @@ fn inputs() -> Vec<Input> {
         // The most words before W2.
         Input { name: "all dropped", sheet: full(64, 1, 128), entries: one_atom.clone() },
         // No legal input gives more words, with choice rules or without.
-        Input { name: "the most words", sheet: longest(), entries: one_atom },
+        Input { name: "the most words", sheet: longest(64), entries: one_atom },
     ]
 }
 
@@ -64,12 +66,12 @@ fn inputs() -> Vec<Input> {
 const GROWTHS: [(&str, usize, usize); 2] = [("128 / 16 rules", 1, 7), ("640 / 80 entries", 4, 7)];
 
 /// A call with a sheet, a sequence and a buffer: the numbers answered, the length first, or the refusal.
-type Call<T, const N: usize> = fn(&[u8], &[u8], &mut [T]) -> Result<[u64; N], u32>;
+pub type Writing<T, const N: usize> = fn(&[u8], &[u8], &mut [T]) -> Result<[u64; N], u32>;
 
 /// An operation that writes words, and the numbers that it must answer, by the reference's unfolded program.
 struct Writer<T, const N: usize> {
     name: &'static str,
-    call: Call<T, N>,
+    call: Writing<T, N>,
     expected: fn(&Unfolded) -> [u64; N],
     /// The numbers in the table, by their names and places.
     shown: &'static [(&'static str, usize)],
@@ -97,21 +99,22 @@ impl<T: Copy + From<bool>, const N: usize> Writer<T, N> {
     /// A row with no times yet; its answers are checked.
     fn row(&self, input: Input, tally: &mut Tally) -> Row<T> {
         let (sheet, sequence) = (input.sheet.bytes(), sequence_bytes(&input.entries));
-        let numbers = |by: Derivation| (self.expected)(&unfold(by, &sheet, &sequence).expect("they are accepted"));
+        let unfolding = Call::new(Operation::Unfolded, &sheet).sequence(&sequence);
+        let numbers = |by: Derivation| (self.expected)(&unfold(by, &unfolding).expect("they are accepted"));
         let (expected, before) = (numbers(Unfolded::new), numbers(Unfolded::unshortened));
         let numbers = self.shown.iter().map(|&(_, place)| [expected[place], before[place] - expected[place]]).collect();
         let mut out = vec![T::from(false); expected[0] as usize];
         let name = format!("{}, {}", self.name, input.name);
         check(tally, &name, (self.call)(&sheet, &sequence, &mut out) == Ok(expected));
         check(tally, &name, (self.call)(&sheet, &sequence, &mut []) == Err(10));
-        check(tally, &name, binding::test(&sheet, &sequence).is_ok());
+        check(tally, &name, rulesheet::test(&sheet, &sequence).is_ok());
         Row { input, sheet, sequence, out, numbers, times: Vec::new() }
     }
 
     fn call(&self, Row { sheet, sequence, out, .. }: &mut Row<T>, which: usize) {
         match which {
             0 => black_box(out).fill(black_box(T::from(true))),
-            1 => drop(black_box(binding::test(sheet, sequence))),
+            1 => drop(black_box(rulesheet::test(sheet, sequence))),
             2 => drop(black_box((self.call)(sheet, sequence, &mut []))),
             _ => drop(black_box((self.call)(sheet, sequence, out))),
         }

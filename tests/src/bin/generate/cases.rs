@@ -2,7 +2,7 @@
 
 use rulesheet_tests::reference::{self, read_sequence, read_sheet, Unfolded};
 use rulesheet_tests::report::Statistics;
-use rulesheet_tests::service::{Answer, Argument, Call, Operation};
+use rulesheet_tests::service::{Answer, Argument, Call, Host, Operation};
 use rulesheet_tests::sheet::{set_length, CHOICE};
 use rulesheet_tests::vectors;
 use std::collections::HashSet;
@@ -43,7 +43,7 @@ impl Cases {
         let new = self.seen.insert(line.clone());
         if new {
             self.lines.push(line);
-            self.statistics.add(call.operation, answer);
+            self.statistics.add(call, answer);
         }
         new
     }
@@ -56,16 +56,17 @@ impl Cases {
     }
 }
 
-/// The answer before W2 of an operation that unfolds.
+/// The answer before W2 of an operation of the office that unfolds.
 fn before_w2(call: &Call) -> Option<Answer> {
     let unfolds = matches!(call.operation, Operation::Unfolded | Operation::Clauses | Operation::Program);
-    unfolds.then(|| reference::answer_by(Unfolded::unshortened, call))
+    (unfolds && call.host == Host::Office).then(|| reference::answer_by(Unfolded::unshortened, call))
 }
 
 /// The first level at which the answer stands, if W2 left it as it was: W1 admits choice rules, where there was a refusal by 5,
-/// W3 brings the lparse text, and W4 the missing chain.
+/// W3 brings the lparse text, W4 the missing chain, and W5 the hub.
 fn from(call: &Call) -> u32 {
     match call.operation {
+        _ if call.host == Host::Hub => 5,
         Operation::Program => from(&reference::program_call(call)),
         Operation::Lparse | Operation::LparseProgram => 3,
         Operation::Missing => 4,
@@ -110,7 +111,7 @@ fn until(call: &Call, answer: &Answer) -> u32 {
         // W8 admits version 2 with at least 13 bytes.
         Answer::Refused(1) if call.sheet.len() >= 13 && call.sheet[0] == 2 => 7,
         // W10 judges the form of the sequence before the components.
-        Answer::Refused(7) if call.operation.takes(Argument::Sequence) && malformed(call) => 9,
+        Answer::Refused(7 | 15) if call.operation.takes(Argument::Sequence) && malformed(call) => 9,
         // W8 answers with a second number.
         Answer::Count { .. } => 7,
         Answer::Text(_) => {
@@ -122,6 +123,6 @@ fn until(call: &Call, answer: &Answer) -> u32 {
 }
 
 fn malformed(call: &Call) -> bool {
-    let atoms = read_sheet(&call.sheet).expect("7 is asked of sheets that pass 1 to 6 and 13").all_atoms();
+    let atoms = read_sheet(&call.sheet).expect("7 and 15 are asked of sheets that pass 1 to 6 and 13").all_atoms();
     read_sequence(&call.sequence, atoms as u8).is_err()
 }

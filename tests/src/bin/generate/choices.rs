@@ -1,12 +1,8 @@
 //! Sheets with choice rules, for the cases of all operations.
 
-use rulesheet_tests::inputs::{add_choices, connected, cycle, Shape, Style};
+use rulesheet_tests::inputs::{add_choices, connected, cycle, upto, Shape, Style};
 use rulesheet_tests::random::Random;
 use rulesheet_tests::sheet::{choice, constraint, rule, Record, Sheet, CHOICE};
-
-fn upto(n: u8) -> Vec<u8> {
-    (0..n).collect()
-}
 
 /// The rules as choice rules.
 pub fn chosen(rules: Vec<Record>) -> Vec<Record> {

@@ -2,7 +2,7 @@
 
 use crate::cases::Cases;
 use crate::choices::{self, free};
-use rulesheet_tests::inputs::{add_choices, connected, cycle, with_decided, Shape, Style};
+use rulesheet_tests::inputs::{add_choices, connected, cycle, sheet_a, upto, with_decided, Shape, Style};
 use rulesheet_tests::random::Random;
 use rulesheet_tests::service::{Call, Operation};
 use rulesheet_tests::sheet::{choice, constraint, rule, Record, Sheet};
@@ -29,10 +29,6 @@ pub fn cases() -> Cases {
 
 fn count(cases: &mut Cases, sheet: &Sheet) {
     cases.add(Call::new(Operation::Count, &sheet.bytes()));
-}
-
-fn upto(n: u8) -> Vec<u8> {
-    (0..n).collect()
 }
 
 fn joined(parts: &[&[Record]]) -> Vec<Record> {
@@ -92,7 +88,7 @@ fn small_sheets() -> Vec<Sheet> {
         Sheet::new(2, joined(&[&pair, &[constraint(&[], &[])]])),
         // Supported models that are no answer sets.
         Sheet::new(2, vec![rule(0, &[1], &[]), rule(1, &[0], &[])]),
-        Sheet::new(3, vec![rule(0, &[1], &[]), rule(1, &[0], &[]), rule(0, &[], &[2]), rule(2, &[], &[0])]),
+        sheet_a(),
         Sheet::new(3, vec![rule(0, &[1], &[]), rule(1, &[0], &[]), constraint(&[], &[0])]),
         // A fact defeats, a missing atom does not.
         Sheet::new(3, vec![rule(0, &[], &[1]), rule(1, &[], &[]), rule(2, &[], &[0])]),

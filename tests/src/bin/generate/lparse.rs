@@ -3,7 +3,7 @@
 use crate::cases::Cases;
 use crate::choices;
 use crate::sheets::{malformed, malformed_choices, well_formed};
-use rulesheet_tests::inputs::{any_sheet, barely_entered, damaged, with_decided, Shape, Style};
+use rulesheet_tests::inputs::{any_sheet, barely_entered, damaged, sheet_a, with_decided, Shape, Style};
 use rulesheet_tests::random::Random;
 use rulesheet_tests::service::{Call, Operation};
 use rulesheet_tests::sheet::{choice, constraint, rule, Record, Sheet};
@@ -122,10 +122,7 @@ fn random_sheets(random: &mut Random) -> Vec<Sheet> {
 
 /// Sheet A and a choice rule with a constraint, with every room up to what they need and beyond.
 fn every_room(cases: &mut Cases) {
-    let sheets = [
-        Sheet::new(3, vec![rule(0, &[1], &[]), rule(1, &[0], &[]), rule(0, &[], &[2]), rule(2, &[], &[0])]),
-        Sheet::new(9, vec![choice(8, &[1], &[0, 8]), constraint(&[7], &[8])]),
-    ];
+    let sheets = [sheet_a(), Sheet::new(9, vec![choice(8, &[1], &[0, 8]), constraint(&[7], &[8])])];
     for sheet in sheets {
         let call = Call::new(Operation::Lparse, &sheet.bytes());
         for room in 0..=cases.add(call.clone()).length() + 2 {

@@ -3,6 +3,7 @@
 mod cases;
 mod choices;
 mod count;
+mod hub;
 mod lparse;
 mod missing;
 mod program;
@@ -22,4 +23,5 @@ fn main() {
     program::cases().write(folder, "program.txt");
     lparse::cases().write(folder, "lparse.txt");
     missing::cases().write(folder, "missing.txt");
+    hub::cases().write(folder, "hub.txt");
 }

@@ -3,14 +3,15 @@
 use crate::cases::Cases;
 use crate::choices;
 use crate::sheets::{malformed as malformed_sheets, malformed_choices};
-use rulesheet_tests::inputs::{choose, connected, cycle, Shape};
+use rulesheet_tests::inputs::{choose, complete, complete_components, connected, cycle, sheet_a, upto, Shape};
+use rulesheet_tests::limits::OFFICE;
 use rulesheet_tests::random::Random;
 use rulesheet_tests::reference::{shortest_missing, Graph};
 use rulesheet_tests::sequences::{
-    lengthened, malformed, minimal, mixed, padded, reordered, thinned, without, without_fresh, MOST_ENTRIES,
+    lengthened, malformed, minimal, mixed, padded, reordered, thinned, without, without_fresh,
 };
 use rulesheet_tests::service::{Call, Operation};
-use rulesheet_tests::sheet::{constraint, rule, sequence_bytes, Record, Sheet};
+use rulesheet_tests::sheet::{constraint, rule, sequence_bytes, Sheet};
 use std::collections::HashMap;
 
 pub fn cases() -> Cases {
@@ -49,21 +50,6 @@ fn ask(cases: &mut Cases, random: &mut Random, sheet: &Sheet, entries: &[u8]) {
     cases.add(call.room(*random.pick(&[0, less, less, need, need + 1, 10])));
 }
 
-fn upto(n: u8) -> Vec<u8> {
-    (0..n).collect()
-}
-
-/// Each atom of a range with an edge to every other.
-fn complete(first: u8, size: u8) -> Vec<Record> {
-    let atoms: Vec<u8> = (first..first + size).collect();
-    let others = |head: u8| atoms.iter().copied().filter(|&atom| atom != head).collect::<Vec<_>>();
-    atoms.iter().map(|&head| rule(head, &others(head), &[])).collect()
-}
-
-fn sheet_a() -> Sheet {
-    Sheet::new(3, [cycle(&[0, 1]), vec![rule(0, &[], &[2]), rule(2, &[], &[0])]].concat())
-}
-
 /// Small sheets with every room up to what they need and beyond; where a sequence passes, 14 comes before 10.
 fn every_room(cases: &mut Cases) {
     let inputs: [(Sheet, &[&[u8]]); 5] = [
@@ -71,7 +57,7 @@ fn every_room(cases: &mut Cases) {
         (Sheet::new(0, vec![]), &[&[]]),
         (Sheet::new(0, vec![constraint(&[], &[])]), &[&[]]),
         (Sheet::new(64, vec![]), &[&[], &[0], &upto(63), &upto(64)]),
-        (Sheet::new(5, complete(0, 5)), &[&upto(5).repeat(3), &upto(5).repeat(4), &upto(5).repeat(5)]),
+        (complete_components(1, 5), &[&upto(5).repeat(3), &upto(5).repeat(4), &upto(5).repeat(5)]),
     ];
     for (sheet, sequences) in &inputs {
         for entries in *sequences {
@@ -91,7 +77,7 @@ fn short_sequences(cases: &mut Cases) {
         Sheet::new(2, vec![rule(0, &[1], &[])]),
         Sheet::new(2, cycle(&[0, 1])),
         Sheet::new(3, cycle(&[0, 1, 2])),
-        Sheet::new(3, complete(0, 3)),
+        complete_components(1, 3),
     ];
     for sheet in sheets {
         let mut sequences = vec![Vec::new()];
@@ -203,24 +189,24 @@ fn dense(cases: &mut Cases, random: &mut Random) {
 /// too few it is the only one.
 fn rounds(cases: &mut Cases) {
     for size in [2, 3, 4, 6, 8, 10] {
-        let sheet = Sheet::new(size, complete(0, size));
+        let sheet = complete_components(1, size);
         for number in 0..=size {
             cases.add(call(&sheet, &upto(size).repeat(number.into())));
         }
     }
     // The last ten of 64 atoms.
-    let sheet = Sheet::new(64, complete(54, 10));
     let last: Vec<u8> = (54..64).collect();
+    let sheet = Sheet::new(64, complete(&last));
     cases.add(call(&sheet, &[&upto(54)[..], &last.repeat(9)].concat()));
     let nine = upto(10).repeat(9);
-    let call = |entries: &[u8]| call(&Sheet::new(10, complete(0, 10)), entries);
+    let call = |entries: &[u8]| call(&complete_components(1, 10), entries);
     for room in [0, 9, 10, 11] {
         cases.add(call(&nine).room(room));
     }
     // Further entries that complete it, or do not.
     cases.add(call(&[&nine[..], &[0]].concat()));
     cases.add(call(&[&nine[..], &[9; 550]].concat()));
-    cases.add(call(&padded(&nine, MOST_ENTRIES)));
+    cases.add(call(&padded(&nine, OFFICE.entries)));
 }
 
 /// Cycles of ten: behind one round, so many entries of a second. The shortest missing chain starts with the round's last atom and
@@ -285,10 +271,11 @@ fn long_sequences(cases: &mut Cases, random: &mut Random) {
         let graph = Graph::new(&sheet);
         let minimal = minimal(random, &graph, &graph.default_sequence());
         let lacking = without(&minimal, random.below(minimal.len()));
-        let longest = padded(&minimal, MOST_ENTRIES);
-        let many = lacking.iter().flat_map(|&entry| vec![entry; MOST_ENTRIES / lacking.len()]).collect();
-        let drawn = lengthened(random, &graph, &lacking, MOST_ENTRIES);
-        for entries in [longest[..MOST_ENTRIES - 1].to_vec(), padded(&lacking, MOST_ENTRIES), many, drawn, longest] {
+        let longest = padded(&minimal, OFFICE.entries);
+        let many = lacking.iter().flat_map(|&entry| vec![entry; OFFICE.entries / lacking.len()]).collect();
+        let drawn = lengthened(random, &graph, &lacking, OFFICE.entries);
+        for entries in [longest[..OFFICE.entries - 1].to_vec(), padded(&lacking, OFFICE.entries), many, drawn, longest]
+        {
             ask(cases, random, &sheet, &entries);
         }
     }
@@ -317,7 +304,7 @@ fn six_components(cases: &mut Cases) {
     ] {
         cases.add(call(&cycles, &entries(numbers)));
     }
-    let complete = Sheet::new(60, (0..6).flat_map(|place| complete(10 * place, 10)).collect());
+    let complete = complete_components(6, 10);
     for numbers in [
         [100; 6],
         [91, 91, 91, 91, 91, 90],

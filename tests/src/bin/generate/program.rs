@@ -2,7 +2,7 @@
 
 use crate::cases::Cases;
 use crate::choices;
-use rulesheet_tests::inputs::{any_sheet, barely_entered, cycle, damaged, Shape, Style};
+use rulesheet_tests::inputs::{any_sheet, barely_entered, cycle, damaged, sheet_a, Shape, Style};
 use rulesheet_tests::random::Random;
 use rulesheet_tests::reference::Graph;
 use rulesheet_tests::sequences::{any_sequence, mixed, reordered};
@@ -51,8 +51,7 @@ fn run(cases: &mut Cases, parts: &[Vec<u8>]) {
 
 /// Where the length field divides the input.
 fn divisions(cases: &mut Cases) {
-    let sheet =
-        Sheet::new(3, vec![rule(0, &[1], &[]), rule(1, &[0], &[]), rule(0, &[], &[2]), rule(2, &[], &[0])]).bytes();
+    let sheet = sheet_a().bytes();
     let input = [sheet.clone(), sequence_bytes(&[0, 1, 0, 2])].concat();
     for length in 0..=input.len() {
         run(cases, &[input[..length].to_vec()]);

@@ -2,10 +2,11 @@
 
 use crate::cases::Cases;
 use crate::choices;
-use rulesheet_tests::inputs::{connected, cycle, Shape, Style};
+use rulesheet_tests::inputs::{connected, cycle, sheet_a, Shape, Style};
+use rulesheet_tests::limits::OFFICE;
 use rulesheet_tests::random::Random;
 use rulesheet_tests::reference::Graph;
-use rulesheet_tests::sequences::{lengthened, malformed, minimal, mixed, padded, without, MOST_ENTRIES};
+use rulesheet_tests::sequences::{lengthened, malformed, minimal, mixed, padded, without};
 use rulesheet_tests::service::{Call, Operation};
 use rulesheet_tests::sheet::{constraint, rule, sequence_bytes, Sheet};
 
@@ -37,7 +38,7 @@ fn with_choices(cases: &mut Cases, random: &mut Random) {
     }
     for sheet in choices::most_atoms() {
         let default = Graph::new(&sheet).default_sequence();
-        if default.len() <= MOST_ENTRIES {
+        if default.len() <= OFFICE.entries {
             test(cases, &sheet, &default);
             test(cases, &sheet, &default[..default.len() - 1]);
         }
@@ -110,7 +111,6 @@ fn near_the_limit(cases: &mut Cases, random: &mut Random, sheet: &Sheet) {
 /// Every sequence worth a look on the smallest graphs.
 fn small_sheets(cases: &mut Cases) {
     let pair = vec![rule(0, &[1], &[]), rule(1, &[0], &[])];
-    let sheet_a = Sheet::new(3, [pair.clone(), vec![rule(0, &[], &[2]), rule(2, &[], &[0])]].concat());
     let sheets = [
         Sheet::new(0, vec![]),
         Sheet::new(0, vec![constraint(&[], &[])]),
@@ -121,7 +121,7 @@ fn small_sheets(cases: &mut Cases) {
         Sheet::new(2, vec![rule(0, &[1], &[]), rule(1, &[], &[0])]),
         Sheet::new(2, vec![constraint(&[0, 1], &[])]),
         Sheet::new(2, pair),
-        sheet_a,
+        sheet_a(),
         Sheet::new(3, cycle(&[0, 1, 2])),
         Sheet::new(3, cycle(&[2, 1, 0])),
     ];
@@ -167,12 +167,12 @@ fn last_entry(cases: &mut Cases, random: &mut Random) {
     for sheet in shapes {
         let graph = Graph::new(&sheet);
         let minimal = minimal(random, &graph, &graph.default_sequence());
-        for number in [MOST_ENTRIES - 1, MOST_ENTRIES] {
+        for number in [OFFICE.entries - 1, OFFICE.entries] {
             let entries = padded(&minimal, number);
             test(cases, &sheet, &entries);
             test(cases, &sheet, &entries[..number - 1]);
         }
-        test(cases, &sheet, &lengthened(random, &graph, &minimal, MOST_ENTRIES));
+        test(cases, &sheet, &lengthened(random, &graph, &minimal, OFFICE.entries));
     }
     six_components(cases, random);
 }
@@ -187,7 +187,7 @@ fn six_components(cases: &mut Cases, random: &mut Random) {
     let mixed = mixed(random, &graph);
     test(cases, &sheet, &default);
     test(cases, &sheet, &default[..default.len() - 1]);
-    test(cases, &sheet, &lengthened(random, &graph, &mixed, MOST_ENTRIES));
+    test(cases, &sheet, &lengthened(random, &graph, &mixed, OFFICE.entries));
     // Nothing is missing but one chain of the last component.
     let one = Graph::new(&Sheet::new(10, rules(random, 0)));
     let last = minimal(random, &one, &one.default_sequence()).iter().map(|atom| 50 + atom).collect::<Vec<_>>();

@@ -2,7 +2,7 @@
 
 use crate::cases::Cases;
 use crate::choices;
-use rulesheet_tests::inputs::{connected, cycle, damaged, Shape, Style};
+use rulesheet_tests::inputs::{connected, cycle, damaged, sheet_a, upto, Shape, Style};
 use rulesheet_tests::random::Random;
 use rulesheet_tests::service::{Call, Operation};
 use rulesheet_tests::sheet::{choice, constraint, rule, set_length, Record, Sheet};
@@ -90,8 +90,7 @@ pub fn well_formed(random: &mut Random) -> Vec<Sheet> {
         Sheet::new(0, vec![constraint(&[], &[]); 128]),
         Sheet::new(1, vec![rule(0, &[], &[]); 128]),
         Sheet::new(64, (0..128).map(|i| rule(i / 2, &[], &[i % 64])).collect()),
-        // Sheet A.
-        Sheet::new(3, vec![rule(0, &[1], &[]), rule(1, &[0], &[]), rule(0, &[], &[2]), rule(2, &[], &[0])]),
+        sheet_a(),
         // Self loops.
         Sheet::new(1, vec![rule(0, &[0], &[])]),
         Sheet::new(3, vec![rule(2, &[2], &[2]), rule(1, &[0, 1], &[]), rule(0, &[0], &[1, 2])]),
@@ -149,10 +148,6 @@ fn graphs() -> Vec<Sheet> {
         // Edges that only reach backwards through the numbers.
         many(9, &[vec![8, 3, 1], vec![7, 2], vec![6, 0, 5]]),
     ]
-}
-
-fn upto(n: u8) -> Vec<u8> {
-    (0..n).collect()
 }
 
 pub fn malformed() -> Vec<Vec<u8>> {

@@ -2,12 +2,11 @@
 
 use crate::cases::Cases;
 use crate::choices;
-use rulesheet_tests::inputs::{barely_entered, connected, cycle, Shape, Style};
+use rulesheet_tests::inputs::{barely_entered, connected, cycle, sheet_a, Shape, Style};
+use rulesheet_tests::limits::OFFICE;
 use rulesheet_tests::random::Random;
 use rulesheet_tests::reference::{answer_by, Graph, Unfolded};
-use rulesheet_tests::sequences::{
-    delayed, lengthened, malformed, minimal, mixed, reordered, without, without_fresh, MOST_ENTRIES,
-};
+use rulesheet_tests::sequences::{delayed, lengthened, malformed, minimal, mixed, reordered, without, without_fresh};
 use rulesheet_tests::service::{Call, Operation};
 use rulesheet_tests::sheet::{choice, constraint, rule, sequence_bytes, Record, Sheet};
 
@@ -63,7 +62,7 @@ fn with_choices(cases: &mut Cases, random: &mut Random) {
     // Many copies of heads and of fresh atoms.
     for sheet in [choices::any(random, 10), choices::any(random, 10)] {
         let graph = Graph::new(&sheet);
-        let entries = lengthened(random, &graph, &graph.default_sequence(), MOST_ENTRIES);
+        let entries = lengthened(random, &graph, &graph.default_sequence(), OFFICE.entries);
         ask(cases, random, &sheet, &entries);
     }
 }
@@ -137,11 +136,7 @@ fn small_sheets(cases: &mut Cases, random: &mut Random) {
         (Sheet::new(0, vec![constraint(&[], &[])]), &[&[]]),
         (Sheet::new(1, vec![]), &[&[0], &[0, 0, 0]]),
         (Sheet::new(2, pair.to_vec()), &[&[0, 1, 0], &[1, 0, 1], &[0, 1, 0, 1], &[0, 0, 1, 1, 0, 0]]),
-        // Sheet A.
-        (
-            Sheet::new(3, [&pair[..], &[rule(0, &[], &[2]), rule(2, &[], &[0])]].concat()),
-            &[&[0, 1, 0, 2], &[0, 1, 0, 1, 2], &[2, 0, 1, 0], &[1, 0, 1, 2, 2], &[0, 1, 2]],
-        ),
+        (sheet_a(), &[&[0, 1, 0, 2], &[0, 1, 0, 1, 2], &[2, 0, 1, 0], &[1, 0, 1, 2, 2], &[0, 1, 2]]),
         // A self loop: the rule is dropped at the first copy and reads the copy before at the others.
         (Sheet::new(1, vec![rule(0, &[0], &[])]), &[&[0], &[0, 0], &[0, 0, 0, 0]]),
         (Sheet::new(1, vec![rule(0, &[0], &[]), rule(0, &[], &[])]), &[&[0], &[0, 0, 0]]),
@@ -253,7 +248,7 @@ fn dead_stretches(cases: &mut Cases, random: &mut Random) {
         let shut = Sheet::new(size, cycle(&ring));
         let default = Graph::new(&shut).default_sequence();
         let open = Sheet::new(size, [cycle(&ring), vec![rule(size - 1, &[], &[])]].concat());
-        for number in [20, 100, MOST_ENTRIES - default.len()] {
+        for number in [20, 100, OFFICE.entries - default.len()] {
             let stretch: Vec<u8> = (0..size - 1).cycle().take(number).collect();
             ask(cases, random, &shut, &[&default[..], &stretch].concat());
             ask(cases, random, &open, &[&stretch[..], &default].concat());
@@ -266,7 +261,7 @@ fn long_outputs(cases: &mut Cases, random: &mut Random) {
     for shape in [Shape::CompleteSplit, Shape::Complete, Shape::Tangle] {
         let sheet = connected(random, shape, 10);
         let graph = Graph::new(&sheet);
-        let entries = lengthened(random, &graph, &graph.default_sequence(), MOST_ENTRIES);
+        let entries = lengthened(random, &graph, &graph.default_sequence(), OFFICE.entries);
         ask(cases, random, &sheet, &entries);
     }
     let sheet = loop {
@@ -277,7 +272,7 @@ fn long_outputs(cases: &mut Cases, random: &mut Random) {
     };
     let graph = Graph::new(&sheet);
     ask(cases, random, &sheet, &graph.default_sequence());
-    let entries = lengthened(random, &graph, &graph.default_sequence(), MOST_ENTRIES);
+    let entries = lengthened(random, &graph, &graph.default_sequence(), OFFICE.entries);
     ask(cases, random, &sheet, &entries);
 }
 

@@ -1,0 +1,55 @@
+-- `chains::clear` meets its contract, one law for each way through it.
+use mathlib.Core.Path.{_≡_}
+use Prim.Native.Nat.{_-_}
+use native.Mathlib.Omega.{arith}
+use lib.ListN.{length}
+use Rattle.chains.proofs.Rows.{cleared-start, cleared-turn, cleared-end}
+use Rattle.chains.specs.inner.Subsets.{Cleared}
+use borrow.Author.Needs.{needs}
+use Rattle.chains.proofs.clear.Statement.{statement}
+use Rattle.chains.proofs.clear.Tie as tie
+
+abbrev Inv-loop : tie.InvT-loop
+Inv-loop sets₀ size set₀ sets set = Cleared set sets × (length sets ≡ length sets₀)
+
+abbrev μ-loop : tie.MeasureT-loop
+μ-loop sets₀ size set₀ sets set = size - set
+
+loop-holds : tie.Need-loop-holds Inv-loop μ-loop
+loop-holds c = search (needs, cleared-start)
+
+mul-sets : tie.Need-mul-sets Inv-loop μ-loop
+mul-sets c = search needs
+
+slice-write-sets : tie.Need-slice-write-sets Inv-loop μ-loop
+slice-write-sets c = search needs
+
+add-set : tie.Need-add-set Inv-loop μ-loop
+add-set c = search needs
+
+loop-less : tie.Need-loop-less Inv-loop μ-loop
+loop-less c = search needs
+
+loop-again : tie.Need-loop-again Inv-loop μ-loop
+loop-again c = let k = c .before .loop in (cleared-turn (k .set) (k .sets) (k .inv .0) (omega arith), search needs)
+
+same-length : tie.Need-same-length Inv-loop μ-loop
+same-length c = search needs
+
+returns : tie.Need-returns Inv-loop μ-loop
+returns c = search (needs, cleared-end)
+
+pub clear-spec : {M : Type 1} → statement M
+clear-spec =
+    tie.close
+    (tie.spec
+    Inv-loop
+    μ-loop
+    loop-holds
+    mul-sets
+    slice-write-sets
+    add-set
+    loop-less
+    loop-again
+    same-length
+    returns)

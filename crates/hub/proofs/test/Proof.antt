@@ -1,0 +1,20 @@
+-- `hub::test` meets its contract, one law for each way through it.
+use borrow.Author.Needs.{needs}
+use Rattle.hub.proofs.Laws.{supported, table-room}
+use Rattle.hub.proofs.test.Statement.{statement}
+use Rattle.hub.proofs.test.Tie as tie
+
+limits-requires : tie.Need-limits-requires
+limits-requires c κs = search needs
+
+slice-aggregate-test : tie.Need-slice-aggregate-test
+slice-aggregate-test c = search needs
+
+test-requires : tie.Need-test-requires
+test-requires c κs = (search (needs, supported), table-room _ _ (c .before .limits .ensures) (search needs))
+
+returns : tie.Need-returns
+returns c = rw (c .before .before .before .limits .ensures) at (c .before .test .ensures)
+
+pub test-spec : {M : Type 1} → statement M
+test-spec = tie.close (tie.spec limits-requires slice-aggregate-test test-requires returns)

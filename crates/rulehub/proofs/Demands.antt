@@ -1,0 +1,44 @@
+-- The three demands of what C sees of the hub.
+use Rattle.core.specs.Demands.{Demand1, Demand2, Demand3, TextForSolvers, MissingChains}
+use Rattle.core.specs.Claims.{Shorter}
+use Rattle.interface.specs.Seen.{Seen, NumbersKept, SameShown}
+use Rattle.interface.proofs.Demands as interface
+use Rattle.core.specs.Services.{SameAnswers}
+use Rattle.core.proofs.Services.{one-service}
+use Rattle.office.specs.Office.{office}
+use Rattle.hub.specs.Hub.{hub}
+use Rattle.hub.proofs.Laws.{hub-format, hub-narrower}
+
+-- The demands of the C interface.
+pub seen-demand-1 : Demand1 hub (Seen hub)
+seen-demand-1 = interface.seen-demand-1 hub
+
+pub seen-demand-2 : Demand2 hub (Seen hub)
+seen-demand-2 = interface.seen-demand-2 hub
+
+pub seen-demand-3 : Demand3 hub (Seen hub)
+seen-demand-3 = interface.seen-demand-3 hub
+
+-- What a solver reads of the text that C sees.
+pub seen-text-for-solvers : TextForSolvers (Seen hub)
+seen-text-for-solvers = interface.seen-text-for-solvers hub
+
+-- What the missing chains that C sees are.
+pub seen-missing-chains : MissingChains (Seen hub)
+seen-missing-chains = interface.seen-missing-chains hub
+
+-- What C sees written is shortened.
+pub seen-shorter : Shorter (Seen hub)
+seen-shorter = interface.seen-shorter hub
+
+-- On a refusal the lent numbers are as they were.
+pub numbers-kept : NumbersKept hub
+numbers-kept = interface.numbers-kept hub
+
+-- What C sees of hub and office is the same, but for 15 and 16.
+pub seen-same-answers : SameAnswers hub (Seen hub) (Seen office)
+seen-same-answers = one-service hub office hub-format hub-narrower (Seen hub) (Seen office) seen-demand-1 (interface.seen-demand-1 office)
+
+-- And so are the bodies that C is shown, with their places.
+pub seen-same-shown : SameShown hub office
+seen-same-shown = interface.same-shown hub office hub-format hub-narrower

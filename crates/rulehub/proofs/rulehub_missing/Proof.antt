@@ -1,0 +1,21 @@
+-- `rulehub::rulehub_missing` meets its contract: its answer is stored.
+use borrow.Author.Needs.{needs}
+use Rattle.interface.proofs.Returning.{missing-returned}
+use Rattle.rulehub.proofs.rulehub_missing.Statement.{statement}
+use Rattle.rulehub.proofs.rulehub_missing.Tie as tie
+
+missing-requires : tie.Need-missing-requires
+missing-requires c κs = search needs
+
+store-length-requires : tie.Need-store-length-requires
+store-length-requires c κs = search needs
+
+same-length : tie.Need-same-length
+same-length c = search needs
+
+returns : tie.Need-returns
+returns c = search (needs, missing-returned)
+
+pub rulehub-missing-spec : {M : Type 1} → statement M
+rulehub-missing-spec =
+    tie.close (tie.spec missing-requires store-length-requires same-length returns)
