@@ -1,13 +1,14 @@
 /* Rule sheets inside the hub, whose memory is small. The library is librulehub.a, for x86-64 Linux.
  *
  * The functions are those of rulesheet.h, with rulehub_ before their names: what that header says of rulesheet_read holds of
- * rulehub_read, and so on. Only its refusals and verdicts are used; librulesheet.a is not needed.
+ * rulehub_read, and so on, but for stack and room, which stand here. Only its refusals and verdicts are used; librulesheet.a is not
+ * needed.
  *
  * The hub takes at most 24 atoms, fresh ones included, at most 4 atoms in a component, and at most 96 entries in a sequence. So it has
  * two refusals more. Where it does not refuse by one of these, it answers and writes what librulesheet.a does.
  *
- * A call takes less than 8 KB of stack, and count less than 16 KB: as measured, read, body, components, default, lparse and test 5 KB,
- * missing 6 KB, unfolded and clauses 7.9 KB, count 10 KB. */
+ * A call takes less than 8 KB of stack, and count less than 16 KB: as measured, unfolded and clauses 7.9 KB, count 10 KB, all others
+ * 5 KB. */
 
 #ifndef RULEHUB_H
 #define RULEHUB_H

@@ -1,6 +1,7 @@
 /* How much stack each operation of both services takes, on sheets and sequences that lead through all of its code: the stack of a
  * call is filled with a pattern beforehand. Prints one table: bytes of stack, and for the operations that write, the length of the
- * longest output. Every input is given to both services, so what the hub refuses late counts too. */
+ * longest output. Every input is given to both services, so what the hub refuses late counts too. Fails where a call takes more
+ * stack, or the longest output is not as long, as the headers say. */
 #define _GNU_SOURCE
 #include "rulehub.h"
 #include <stdio.h>
@@ -9,6 +10,9 @@
 #include <ucontext.h>
 
 enum { STACK = 1 << 20, PATTERN = 0xa5, ROOM = RULESHEET_CLAUSES_ROOM };
+/* What the headers promise: a call takes no more, of the hub and of its count; and the longest default sequence of the office, whose
+ * room holds longer ones, too. */
+enum { OFFICE_STACK = 18 * 1024, HUB_STACK = 8 * 1024, HUB_COUNT_STACK = 16 * 1024, OFFICE_DEFAULT = 619 };
 
 static uint8_t stack[STACK];
 static ucontext_t here, there;
@@ -238,33 +242,42 @@ static void chosen(struct limits most) {
     set_default_sequence();
 }
 
+/* The operations: what they write, how long their longest outputs are and the stack that they may take, in both services. */
+static const struct {
+    const char *name;
+    void (*call)(void);
+    const char *unit;
+    uint64_t longest[SERVICES];
+    size_t stack[SERVICES];
+} calls[] = {
+    {"read", read_call, NULL, {0}, {OFFICE_STACK, HUB_STACK}},
+    {"body", body_call, NULL, {0}, {OFFICE_STACK, HUB_STACK}},
+    {"components", components_call, "bytes", {RULESHEET_COMPONENTS_ROOM, RULEHUB_COMPONENTS_ROOM}, {OFFICE_STACK, HUB_STACK}},
+    {"default", default_call, "bytes", {OFFICE_DEFAULT, RULEHUB_DEFAULT_ROOM}, {OFFICE_STACK, HUB_STACK}},
+    {"test", test_call, NULL, {0}, {OFFICE_STACK, HUB_STACK}},
+    {"missing", missing_call, "bytes", {RULESHEET_MISSING_ROOM, RULEHUB_MISSING_ROOM}, {OFFICE_STACK, HUB_STACK}},
+    {"unfolded", unfolded_call, "words", {RULESHEET_UNFOLDED_ROOM, RULEHUB_UNFOLDED_ROOM}, {OFFICE_STACK, HUB_STACK}},
+    {"clauses", clauses_call, "words", {RULESHEET_CLAUSES_ROOM, RULEHUB_CLAUSES_ROOM}, {OFFICE_STACK, HUB_STACK}},
+    {"lparse", lparse_call, "bytes", {RULESHEET_LPARSE_ROOM, RULEHUB_LPARSE_ROOM}, {OFFICE_STACK, HUB_STACK}},
+    {"count", count_call, NULL, {0}, {OFFICE_STACK, HUB_COUNT_STACK}}};
+enum { CALLS = sizeof calls / sizeof *calls };
+
+static void (*const inputs[])(struct limits) = {longest, too_long, longest_text, complete, lacking,
+                                                empty,   decided,  most_rules,   chosen};
+enum { INPUTS = sizeof inputs / sizeof *inputs };
+
 int main(void) {
-    static const struct {
-        const char *name;
-        void (*call)(void);
-        const char *unit; /* of an output */
-    } calls[] = {{"read", read_call, NULL},
-                 {"body", body_call, NULL},
-                 {"components", components_call, "bytes"},
-                 {"default", default_call, "bytes"},
-                 {"test", test_call, NULL},
-                 {"missing", missing_call, "bytes"},
-                 {"unfolded", unfolded_call, "words"},
-                 {"clauses", clauses_call, "words"},
-                 {"lparse", lparse_call, "bytes"},
-                 {"count", count_call, NULL}};
-    static void (*const inputs[])(struct limits) = {longest, too_long, longest_text, complete, lacking,
-                                                    empty,   decided,  most_rules,   chosen};
+    int passed = 0, failed = 0;
     out = malloc(sizeof *out * ROOM);
     if (out == NULL) {
         return 1;
     }
     printf("%-10s %15s %15s %15s %15s\n", "", "office: stack", "hub: stack", "office: output", "hub: output");
     size_t frame = used(nothing);
-    for (size_t call = 0; call < sizeof calls / sizeof *calls; call++) {
+    for (size_t call = 0; call < CALLS; call++) {
         size_t most[SERVICES] = {0};
         uint64_t written[SERVICES] = {0};
-        for (size_t input = 0; input < SERVICES * sizeof inputs / sizeof *inputs; input++) {
+        for (size_t input = 0; input < SERVICES * INPUTS; input++) {
             inputs[input / SERVICES](limits[input % SERVICES]);
             for (size_t which = 0; which < SERVICES; which++) {
                 service = &services[which];
@@ -278,7 +291,15 @@ int main(void) {
             printf(" %9llu %s %9llu %s", (unsigned long long)written[0], calls[call].unit, (unsigned long long)written[1],
                    calls[call].unit);
         }
+        for (size_t which = 0; which < SERVICES; which++) {
+            int right = most[which] <= calls[call].stack[which]
+                        && (calls[call].unit == NULL || written[which] == calls[call].longest[which]);
+            printf("%s", right ? "" : which == 0 ? "  office: not as its header says" : "  hub: not as its header says");
+            passed += right;
+            failed += !right;
+        }
         printf("\n");
     }
-    return 0;
+    printf("stack: %d passed, %d failed\n", passed, failed);
+    return failed != 0;
 }

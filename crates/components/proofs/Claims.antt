@@ -4,12 +4,12 @@ use mathlib.Core.List.{List, [], _∷_, List·Memᴰ, List·Memᴰ·head}
 use mathlib.Core.Path.{_≡_, refl, sym, _∙_, ap, subst}
 use Prim.Native.Nat.{ℕ, _≤_, _<_}
 use native.Mathlib.Omega.{arith}
-use borrow.Author.Tests.{eqb-true, eq-eqb, leb-true, le-leb}
+use borrow.Author.Tests.{eqb-true, eq-eqb, le-leb}
 use lib.Dec.{eqb, leb}
 use lib.ListN.{length}
 use Rattle.lists.specs.Lists.{filter, range}
 use Rattle.lists.proofs.Bools.{bool-ext}
-use Rattle.lists.proofs.Members.{all-at, all-intro, filter-cong, filter-out, range-in}
+use Rattle.lists.proofs.Members.{all-intro, filter-cong, filter-out, range-in}
 use Rattle.asp.specs.Program.{Program, State, wellFormed}
 use Rattle.unfolding.specs.Graph.{sameComponent, component}
 use Rattle.unfolding.specs.Component.{Component}
@@ -18,6 +18,7 @@ use Rattle.unfolding.proofs.Ancestors.{in-range}
 use Rattle.unfolding.proofs.Reach.{same-below, component-of, component-only, component-shared, component-same, component-joins}
 use Rattle.components.specs.Limit.{componentsFit}
 use Rattle.components.specs.Claims.{FitIsOfComponents}
+use Rattle.components.proofs.Graphs.{fits-members}
 
 -- A bound on the length of a list may be shown with a member at hand: the empty list needs none.
 by-member : (l : List ℕ) (most : ℕ) → ((a : ℕ) → List·Memᴰ a l → length l ≤ most) → length l ≤ most
@@ -34,7 +35,6 @@ module _ (P : Program) (wf : wellFormed P ≡ true) where
       (λ e. component-joins P wf a b l (in-range P wf b m) (sym (eqb-true (component P b) (component P a) e))))
 
   fit-out : (most : ℕ) → componentsFit most P ≡ true → (C : State) → Component P C → length (filter C (range 0 (P .atoms))) ≤ most
-  unfolding componentsFit
   fit-out most e C K =
       by-member (filter C (range 0 (P .atoms))) most (λ a m.
       let u = filter-out C (range 0 (P .atoms)) a m in
@@ -42,9 +42,7 @@ module _ (P : Program) (wf : wellFormed P ≡ true) where
       let c = same-below P wf a (component P a) l (component-shared P wf a l) in
       subst (λ D. length (filter D (range 0 (P .atoms))) ≤ most) (sym (component-only P wf C K a (u .1)))
       (subst (λ k. length k ≤ most) (sym (same-members a l))
-      (leb-true (length (members P (component P a))) most
-      (all-at (λ c. leb (length (members P c)) most) (range 0 (P .atoms)) e (component P a)
-      (range-in 0 (P .atoms) (component P a) (omega arith) (omega arith))))))
+      (fits-members P most e (component P a) (range-in 0 (P .atoms) (component P a) (omega arith) (omega arith)))))
 
   fit-in : (most : ℕ) → ((C : State) → Component P C → length (filter C (range 0 (P .atoms))) ≤ most) → componentsFit most P ≡ true
   unfolding componentsFit members

@@ -2,14 +2,15 @@
 use mathlib.Core.Bool.{Bool, true, cond}
 use mathlib.Core.List.{List, [], _∷_, List·Memᴰ, List·Memᴰ·head, List·Memᴰ·tail}
 use mathlib.Core.Path.{_≡_, refl, sym, _∙_, ap}
-use Prim.Native.Nat.{ℕ, zero, suc, _+_, _-_, _<_}
+use Prim.Native.Nat.{ℕ, zero, suc, _+_, _-_, _≤_, _<_}
 use native.Mathlib.Nat.{add-zero, zero-add}
 use native.Mathlib.Omega.{arith}
+use borrow.Author.Tests.{leb-true}
 use lib.Dec.{eqb, leb}
 use lib.ListN.{length, getD}
 use Rattle.lists.specs.Lists.{range}
 use Rattle.lists.proofs.Bools.{by-bool}
-use Rattle.lists.proofs.Members.{all-cong, filter-cong, range-out}
+use Rattle.lists.proofs.Members.{all-at, all-cong, filter-cong, range-out}
 use Rattle.asp.specs.Program.{Program, wellFormed}
 use Rattle.unfolding.specs.Graph.{sameComponent, first, component}
 use Rattle.unfolding.specs.Default.{members}
@@ -74,3 +75,8 @@ unfolding namesFit componentsFit
 fits-same P names N most =
     all-cong (λ c. leb (length (named names c (P .atoms))) most) (λ c. leb (length (members P c)) most) (range 0 (P .atoms)) (λ c _.
     ap (λ l. leb (length l) most) (named-members P names N c))
+
+-- What it says of one component.
+pub fits-members : (P : Program) (most : ℕ) → componentsFit most P ≡ true → (c : ℕ) → List·Memᴰ c (range 0 (P .atoms)) → length (members P c) ≤ most
+unfolding componentsFit
+fits-members P most fits c m = leb-true (length (members P c)) most (all-at (λ c. leb (length (members P c)) most) (range 0 (P .atoms)) fits c m)

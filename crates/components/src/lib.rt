@@ -115,20 +115,33 @@ pub fn largest(sets: &[u64; 64], n: usize) -> usize
     most
 }
 
+// Copies rows, as many as there is room for.
+fn copy_rows(rows: &[u64; 64], out: &mut [u64]) {
+    let mut a = 0;
+    while a < 64 {
+        if out.len() <= a {
+            return;
+        }
+        out[a] = rows[a];
+        a += 1;
+    }
+}
+
 // The components of a program of n atoms, by its edges: each atom's component's name, and the set of each name. The atoms that lead to each
-// are left too, of which nothing is promised: the count puts records in order by them.
+// are copied too, where there is room, and nothing is promised of them: the count puts records in order by them.
 pub fn components_of(
     n: usize,
     edges: &[u64; 64],
-    ancestors: &mut [u64; 64],
     names: &mut [u8; 64],
     sets: &mut [u64; 64],
+    ancestors: &mut [u64],
 )
     requires { ⌜ (n ≤ 64) × (length (now edges) ≡ 64) × (length (now names) ≡ 64) × (now sets ≡ replicate 64 0) ⌝ }
     ensures { λ r. ⌜ GraphOf n (now (edges .entry)) (now (names .exit)) (now (sets .exit)) ⌝ }
 {
-    *ancestors = *edges;
-    close(ancestors, n);
-    store_names(names, ancestors, n);
+    let mut rows = *edges;
+    close(&mut rows, n);
+    store_names(names, &rows, n);
     store_sets(sets, names, n);
+    copy_rows(&rows, ancestors);
 }

@@ -5,12 +5,12 @@ use mathlib.Core.Path.{_≡_, refl, sym, _∙_, ap, ap₂}
 use Prim.Native.Nat.{ℕ, _+_, _-_, _^_, _≤_, _<_}
 use lib.Pow.{pow-mono}
 use native.Mathlib.Omega.{arith}
-use borrow.Author.Tests.{ltb-true, leb-true, le-leb, lt-leb}
+use borrow.Author.Tests.{ltb-true, le-leb, lt-leb}
 use lib.Dec.{eqb, ltb, leb}
 use lib.ListN.{length, getD, length-drop}
-use Rattle.lists.specs.Lists.{below, range}
+use Rattle.lists.specs.Lists.{below}
 use Rattle.lists.proofs.Bools.{by-bool}
-use Rattle.lists.proofs.Members.{all-at, range-in}
+use Rattle.lists.proofs.Members.{range-in}
 use Rattle.unfolding.specs.Chain.{passes}
 use Rattle.unfolding.specs.Default.{members}
 use Rattle.asp.specs.Program.{Program}
@@ -31,11 +31,11 @@ use Rattle.translation.specs.inner.Linked.{EdgesIn}
 use Rattle.components.specs.Limit.{componentsFit}
 use Rattle.components.specs.inner.Reachability.{EdgesOf, SetsOf, named, namesFit, Largest, ComponentsOf, GraphOf}
 use Rattle.components.proofs.Naming.{sets-named}
-use Rattle.components.proofs.Graphs.{fits-same, named-members}
+use Rattle.components.proofs.Graphs.{fits-same, fits-members, named-members}
 use Rattle.chains.specs.inner.Subsets.{Graph, Small, PassesBy}
 use Rattle.choice.proofs.Sheets.{program-formed}
-use Rattle.core.specs.Questions.{question13, question7, question15, question16, question9, readQuestions, testQuestions}
-use Rattle.core.specs.inner.Asked.{Supported, sizesAsked, SheetAccepted, SheetAsked, RecordsAsked, formAsked, SequenceAsked, BothKept}
+use Rattle.core.specs.Questions.{question13, question7, question15, question8, question16, question9, readQuestions, testQuestions}
+use Rattle.core.specs.inner.Asked.{Supported, sizesAsked, SheetAccepted, SheetAsked, RecordsAsked, formAsked, SequenceAsked}
 use Rattle.core.specs.declared.Asked.{Asked}
 use Rattle.core.proofs.Chains.{then-assoc, read-asked, read-passed, test-asked}
 
@@ -195,12 +195,10 @@ module _ (L : Limits) (s cs ss : List ℕ) (r : Asked) (A : SheetAccepted L s cs
 
   -- How many there are at most, by a limit of components.
   members-few : (most : ℕ) → componentsFit most (program s) ≡ true → (c : ℕ) → c < r .atoms → length (listed (getD ss c 0)) ≤ most
-  unfolding componentsFit
   members-few most fits c l =
       let e = ap length (set-members c l) in
       let a = A .atoms in
-      let m = leb-true (length (members (program s) c)) most
-      (all-at (λ c. leb (length (members (program s) c)) most) (range 0 (program s .atoms)) fits c (range-in 0 (program s .atoms) c (omega arith) (omega arith))) in
+      let m = fits-members (program s) most fits c (range-in 0 (program s .atoms) c (omega arith) (omega arith)) in
       omega arith
 
   pub components-small : Supported L → (rows : ℕ) → 2 ^ L .taken .component ≤ rows → Small (r .atoms) ss rows
@@ -272,47 +270,29 @@ module _ (L : Limits) (n : ℕ) (es ss q : List ℕ) (f : ℕ) (F : f ≡ formAs
       unfolding ask
       sequence-passes u = record { says = λ P G. rw u at (answers P G) }
 
--- Both.
-module _ (L : Limits) (s q : List ℕ) (ks hs ps ns es cs ss : List ℕ) (a : Asked) (K : RecordsAsked L s ks hs ps ns es cs ss a) where
-  A : SheetAsked L s es cs ss a
-  A = K .asked
+-- Behind the questions about a sheet.
+module _ (L : Limits) (s es cs ss : List ℕ) (a : Asked) (A : SheetAsked L s es cs ss a) (z : a .refusal ≡ 0) where
+  pub sheet-low : a .atoms ≤ 64
+  sheet-low = A .accepted z .low
 
-  pub both-sheet : (a .refusal ≡ 0 → ⊥) → BothKept L s q ks hs ps ns cs ss a
-  both-sheet ne =
-      record {
-        asked = record { says = A .says ∙ sym (test-asked L s q ∙ then-refused (readQuestions L s) _ (λ z. ne (A .says ∙ z))); accepted = λ z. absurd (ne z) };
-        kept = λ z. absurd (ne z);
-      }
+  pub sheet-small : Supported L → (rows : ℕ) → 2 ^ L .taken .component ≤ rows → Small (a .atoms) ss rows
+  sheet-small = components-small L s cs ss a (A .accepted z)
 
-  module _ (z : a .refusal ≡ 0) where
-    pub both-low : a .atoms ≤ 64
-    both-low = A .accepted z .low
+-- The sequence behind the sheet.
+module _ (L : Limits) (s q es cs ss : List ℕ) (a : Asked) (A : SheetAsked L s es cs ss a) where
+  pub sheet-says : (a .refusal ≡ 0 → ⊥) → a .refusal ≡ testQuestions L s q
+  sheet-says ne = A .says ∙ sym (test-asked L s q ∙ then-refused (readQuestions L s) _ (λ z. ne (A .says ∙ z)))
 
-    pub both-small : Supported L → (rows : ℕ) → 2 ^ L .taken .component ≤ rows → Small (a .atoms) ss rows
-    both-small = components-small L s cs ss a (A .accepted z)
+  module _ (z : a .refusal ≡ 0) (r : ℕ) (Q : SequenceAsked L (a .atoms) es ss q r) where
+    behind : testQuestions L s q ≡ question8 L s q then question16 L q then question9 s q
+    behind = test-asked L s q ∙ then-zero (readQuestions L s) _ (sym (A .says) ∙ z)
 
-    module _ (r : ℕ) (Q : SequenceAsked L (a .atoms) es ss q r) where
-      behind : testQuestions L s q ≡ r
-      unfolding formAsked
-      behind =
-          test-asked L s q
-          ∙ (then-zero (readQuestions L s) _ (sym (A .says) ∙ z)
-          ∙ sym (Q .says (program s) (graph-here L s cs ss a (A .accepted z) es (A .edged z))
-          ∙ (then-assoc (ask (sequenceFits L (a .atoms) q) 8) (question16 L q) (question9 s q)
-          ∙ ap (λ n. ask (sequenceFits L n q) 8 then question16 L q then question9 s q) (A .accepted z .atoms))))
+    pub sequence-says : r ≡ testQuestions L s q
+    unfolding formAsked
+    sequence-says =
+        Q .says (program s) (graph-here L s cs ss a (A .accepted z) es (A .edged z))
+        ∙ (then-assoc (ask (sequenceFits L (a .atoms) q) 8) (question16 L q) (question9 s q)
+        ∙ (ap (λ n. ask (sequenceFits L n q) 8 then question16 L q then question9 s q) (A .accepted z .atoms) ∙ sym behind))
 
-      pub both-sequence : (x : Asked) → (r ≡ 0 → ⊥) → x .refusal ≡ r → BothKept L s q ks hs ps ns cs ss x
-      both-sequence x ne e = record { asked = record { says = e ∙ sym behind; accepted = λ y. absurd (ne (sym e ∙ y)) }; kept = λ y. absurd (ne (sym e ∙ y)) }
-
-      pub both-passed : r ≡ 0 → BothKept L s q ks hs ps ns cs ss a
-      both-passed y =
-          record {
-            asked = record {
-              says = z ∙ sym (behind ∙ y);
-              accepted = λ _. record {
-                sheet = A .accepted z;
-                formed = asked-yes (sequenceFits L (program s .atoms) q) 8 _ (λ e. omega arith) (sym (then-zero (readQuestions L s) _ (sym (A .says) ∙ z)) ∙ (sym (test-asked L s q) ∙ (behind ∙ y))) .0;
-              };
-            };
-            kept = K .kept;
-          }
+    pub sequence-formed : r ≡ 0 → sequenceFits L (program s .atoms) q ≡ true
+    sequence-formed y = asked-yes (sequenceFits L (program s .atoms) q) 8 _ (λ e. omega arith) (sym behind ∙ (sym sequence-says ∙ y)) .0

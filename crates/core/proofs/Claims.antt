@@ -10,12 +10,11 @@ use lib.IntN.{ℤ}
 use lib.ListN.{length, take}
 use Rattle.lists.specs.Lists.{any, filter, member, range}
 use Rattle.lists.proofs.Bools.{by-bool, and-left}
-use Rattle.lists.proofs.Members.{all-at, any-filter, any-map, filter-cong}
+use Rattle.lists.proofs.Members.{any-filter, any-map, filter-cong}
 use Rattle.asp.specs.Program.{Rule}
 use Rattle.unfolding.specs.Graph.{component}
 use Rattle.unfolding.specs.Chain.{Chain}
 use Rattle.unfolding.specs.Missing.{missingChain}
-use Rattle.unfolding.specs.Default.{members}
 use Rattle.unfolding.specs.Unfolded.{Unfolded, unfolded, words}
 use Rattle.unfolding.specs.Decoded.{readUnfolded, nameless}
 use Rattle.unfolding.specs.Clauses.{clauses, variables, signedWords}
@@ -30,7 +29,7 @@ use Rattle.sheet.specs.Sequence.{entries}
 use Rattle.sheet.specs.Sheet.{Record, ruleIn, records, choices, programOf, program}
 use Rattle.sheet.specs.declared.Limits.{Limits}
 use Rattle.sheet.proofs.Walk.{ask-passed, records-sound, records-ordered, records-few}
-use Rattle.components.specs.Limit.{componentsFit}
+use Rattle.components.proofs.Graphs.{fits-members}
 use Rattle.choice.specs.Claims.{plainProgram}
 use Rattle.choice.proofs.Expanded.{without-choices}
 use Rattle.choice.proofs.Unique.{faithful-is-old}
@@ -125,7 +124,7 @@ lparse-fits L a r s z =
     text-short (atomsByte s) (records s) (records-sound L s (P .form)) (records-ordered L s (P .form)) (omega (arith, P .atoms)) (omega (arith, records-few L s (P .form)))
 
 pub missing-fits : MissingFits
-unfolding missingOutput componentsFit
+unfolding missingOutput
 missing-fits L s q z = short (missingChain (program s) (entries q)) refl
   where
     short : (w : List ℕ) → w ≡ missingChain (program s) (entries q) → length w ≤ L .taken .component
@@ -136,5 +135,5 @@ missing-fits L s q z = short (missingChain (program s) (entries q)) refl
         let no = missing-is-there P wf (entries q) .0 (λ n. cons≢nil (e ∙ n)) in
         let C = subst (Chain P) (sym e) (missing-is-shortest P wf (entries q) no .chain) in
         let few = chain-few P wf a w C in
-        let fits = all-at (λ c. leb (length (members P c)) (L .taken .component)) (range 0 (P .atoms)) (read-passed L s z .taken-components) (component P a) (chain-named P wf a w C) in
-        omega (arith, leb-true (length (members P (component P a))) (L .taken .component) fits)
+        let fits = fits-members P (L .taken .component) (read-passed L s z .taken-components) (component P a) (chain-named P wf a w C) in
+        omega arith

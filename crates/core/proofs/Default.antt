@@ -1,18 +1,16 @@
--- What the default sequence writes is accepted by questions 8 and 9.
+-- What the default sequence writes is accepted by questions 8, 16 and 9.
 use mathlib.Core.Bool.{true}
 use mathlib.Core.List.{List}
 use mathlib.Core.Path.{_≡_, refl, sym, _∙_}
 use Prim.Native.Nat.{ℕ, _+_, _*_, _/_, _%_, _≤_, _<_}
 use native.Mathlib.Nat.{mul-le-mul-left}
 use native.Mathlib.Omega.{arith}
-use borrow.Author.Tests.{eq-eqb, le-leb, leb-true}
-use lib.Dec.{leb}
+use borrow.Author.Tests.{eq-eqb, le-leb}
 use lib.ListN.{length}
-use Rattle.lists.specs.Lists.{range}
 use Rattle.lists.proofs.Bools.{and-intro}
-use Rattle.lists.proofs.Members.{all-at, range-in}
+use Rattle.lists.proofs.Members.{range-in}
 use Rattle.unfolding.specs.Chain.{passes}
-use Rattle.unfolding.specs.Default.{members, defaultSequence}
+use Rattle.unfolding.specs.Default.{defaultSequence}
 use Rattle.unfolding.proofs.Chains.{passes-iff}
 use Rattle.unfolding.proofs.Default.{default-passes, default-short, default-below}
 use Rattle.sheet.specs.Questions.{ask}
@@ -22,6 +20,7 @@ use Rattle.sheet.specs.declared.Limits.{Limits}
 use Rattle.sheet.proofs.Records.{ask-yes, then-zero}
 use Rattle.choice.proofs.Sheets.{program-formed}
 use Rattle.components.specs.Limit.{componentsFit}
+use Rattle.components.proofs.Graphs.{fits-members}
 use Rattle.core.specs.Outputs.{sequenceBytes, defaultOutput}
 use Rattle.core.specs.Questions.{question16, question9, readQuestions}
 use Rattle.core.specs.Calls.{sheetAsked, questions}
@@ -36,10 +35,8 @@ module _ (L : Limits) (s : List ℕ) (accepted : readQuestions L s ≡ 0) where
 
   -- The length of the default sequence of a sheet with components of at most so many atoms.
   pub default-length : (most : ℕ) → componentsFit most (program s) ≡ true → length (defaultSequence (program s)) ≤ most * program s .atoms
-  unfolding componentsFit
   default-length most fits =
-      default-short (program s) most (λ c l. leb-true (length (members (program s) c)) most
-      (all-at (λ c. leb (length (members (program s) c)) most) (range 0 (program s .atoms)) fits c (range-in 0 (program s .atoms) c (omega arith) (omega arith))))
+      default-short (program s) most (λ c l. fits-members (program s) most fits c (range-in 0 (program s .atoms) c (omega arith) (omega arith)))
 
   module _ (enough : L .taken .component * L .taken .atoms ≤ L .taken .entries) (within : L .taken .entries ≤ L .entries) (two-bytes : L .entries < 65536) where
     few : length (defaultSequence (program s)) ≤ L .taken .entries

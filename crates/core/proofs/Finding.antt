@@ -15,7 +15,7 @@ use Rattle.sheet.specs.Sheet.{program}
 use Rattle.sheet.specs.declared.Limits.{Limits}
 use Rattle.sheet.proofs.Records.{then-zero, then-refused}
 use Rattle.bits.specs.inner.Visited.{listed}
-use Rattle.chains.specs.inner.Subsets.{Roomy, Small, Edged}
+use Rattle.chains.specs.inner.Subsets.{Roomy, Edged}
 use Rattle.writer.specs.inner.Wrote.{Wrote}
 use Rattle.missing.specs.declared.Start.{Start}
 use Rattle.missing.specs.inner.Starts.{Begins, StartOf, SomeMissing, MissingPut}
@@ -28,7 +28,7 @@ use Rattle.core.specs.inner.Asked.{Supported, SheetAsked, formAsked}
 use Rattle.core.specs.declared.Asked.{Asked}
 use Rattle.core.specs.declared.WriteAnswer.{WriteAnswer}
 use Rattle.core.specs.declared.WriteAnswer.the-variants as write
-use Rattle.core.proofs.Asking.{components-small, graph-here, sequence-low}
+use Rattle.core.proofs.Asking.{sheet-small, graph-here, sequence-low}
 use Rattle.core.proofs.Chains.{then-assoc}
 use Rattle.core.proofs.Writing.{room-refused, room-full, room-done}
 
@@ -57,9 +57,6 @@ module _ (L : Limits) (s q old es cs ss : List ℕ) (r : Asked) (A : SheetAsked 
   missing-refused ne = refused-by (r .refusal) (A .says ∙ sym (then-refused (readQuestions L s) _ (λ z. ne (A .says ∙ z)))) ne
 
   module _ (z : r .refusal ≡ 0) where
-    pub missing-small : Supported L → (rows : ℕ) → 2 ^ L .taken .component ≤ rows → Small (r .atoms) ss rows
-    missing-small = components-small L s cs ss r (A .accepted z)
-
     module _ (f : ℕ) (F : f ≡ formAsked L (r .atoms) q) where
       behind : asked ≡ f then question14 s q
       unfolding formAsked
@@ -114,7 +111,7 @@ module _ (L : Limits) (s q old es cs ss : List ℕ) (r : Asked) (A : SheetAsked 
 
             pub missing-roomy : Supported L → (rows : ℕ) → 2 ^ L .taken .component ≤ rows → Roomy (length (listed (start .set))) rows
             missing-roomy S rows T =
-                start-roomy (program s) (r .atoms) es ss (entries q) start (graph-here L s cs ss r (A .accepted z) es (A .edged z)) K l rows (missing-small S rows T)
+                start-roomy (program s) (r .atoms) es ss (entries q) start (graph-here L s cs ss r (A .accepted z) es (A .edged z)) K l rows (sheet-small L s es cs ss r A z S rows T)
 
             pub some-missing : SomeMissing es (entries q) start
             some-missing = record { program = program s; edged = edged; begins = begins; there = l }

@@ -7,7 +7,7 @@ use native.Mathlib.Omega.{arith}
 use borrow.Author.Tests.{eqb-true, eqb-false, le-leb, leb-true}
 use lib.Dec.{eqb, leb}
 use lib.ListN.{length, length-drop}
-use Rattle.lists.specs.Lists.{all, range}
+use Rattle.lists.specs.Lists.{range}
 use Rattle.lists.proofs.Bools.{by-bool, and-intro, and-left, and-right}
 use Rattle.lists.proofs.Members.{all-mono}
 use Rattle.unfolding.specs.Default.{members}
@@ -40,6 +40,9 @@ Neither k = (k ≡ 15 → ⊥) × (k ≡ 16 → ⊥)
 
 ask-neither : (b : Bool) (k : ℕ) → Neither k → Neither (ask b k)
 ask-neither b k n = (ask-other b k 15 (λ e. omega arith) (n .0), ask-other b k 16 (λ e. omega arith) (n .1))
+
+zero-neither : (k : ℕ) → k ≡ 0 → Neither k
+zero-neither k z = (λ e. omega arith, λ e. omega arith)
 
 small-neither : (b : Bool) (k : ℕ) → k ≤ 14 → Neither (ask b k)
 small-neither b k l = ask-neither b k (λ e. omega arith, λ e. omega arith)
@@ -76,12 +79,9 @@ module _ (L : Limits) (s : List ℕ) (fits : SheetFits L s) where
       (then-neither (question8 L s q) _ (small-neither _ 8 (omega arith)) (λ e. then-neither (question16 L q) (first more) (m e) (λ _. n)))
 
 -- Questions behind them.
-zero-neither : Neither 0
-zero-neither = (λ e. omega arith, λ e. omega arith)
-
 one-neither : (b : Bool) (k : ℕ) → k ≤ 14 → Neither (first (ask b k ∷ []))
 unfolding first
-one-neither b k l = then-neither (ask b k) 0 (small-neither b k l) (λ _. zero-neither)
+one-neither b k l = then-neither (ask b k) 0 (small-neither b k l) (λ _. zero-neither 0 refl)
 
 two-neither : (b d : Bool) (j k : ℕ) → j ≤ 14 → k ≤ 14 → Neither (first (ask b j ∷ ask d k ∷ []))
 unfolding first
@@ -113,9 +113,6 @@ call-neither L (call.clauses s q old) f = sequence-neither L s (f .0) q _ (f .1)
 call-neither L (call.count s) f = sheet-neither L s f _ (one-neither _ 11 (omega arith))
 
 -- A call fits where it passes the service's own questions.
-zero-fits : (k : ℕ) → k ≡ 0 → Neither k
-zero-fits k z = (λ e. omega arith, λ e. omega arith)
-
 passed-one : (a : ℕ) → AllYes (a ∷ []) → a ≡ 0
 unfolding first
 passed-one a y = then-passed a 0 (yes-first (a ∷ []) y) .0
@@ -126,10 +123,10 @@ passed-two a b y = let p = then-passed a _ (yes-first (a ∷ b ∷ []) y) in (p 
 
 module _ (L : Limits) (s : List ℕ) where
   sheet-within : AllYes (question15 L s ∷ []) → SheetFits L s
-  sheet-within y _ _ = zero-fits (question15 L s) (passed-one _ y)
+  sheet-within y _ _ = zero-neither (question15 L s) (passed-one _ y)
 
   both-within : (q : List ℕ) → AllYes (question15 L s ∷ question16 L q ∷ []) → SheetFits L s × SequenceFits L s q
-  both-within q y = let p = passed-two _ _ y in (λ _ _. zero-fits (question15 L s) (p .0), λ _. zero-fits (question16 L q) (p .1))
+  both-within q y = let p = passed-two _ _ y in (λ _ _. zero-neither (question15 L s) (p .0), λ _. zero-neither (question16 L q) (p .1))
 
 within-fits : (L : Limits) (c : Call) → AllYes (serviceQuestions L c) → CallFits L c
 unfolding CallFits serviceQuestions
@@ -159,7 +156,7 @@ module _ (L : Limits) (W : WholeFormat L) where
       let n = leb-true (atomsByte s + choices (records s)) (L .atoms) (ask-passed (leb (atomsByte s + choices (records s)) (L .atoms)) 13 (λ e. omega arith) a) in
       let few = W .atoms in
       let small = components-fit-more (program s) (L .component) (L .taken .component) (W .component) (ask-passed (componentsFit (L .component) (program s)) 7 (λ e. omega arith) b) in
-      zero-fits (question15 L s) (rw (le-leb (program s .atoms) (L .taken .atoms) (omega arith), small) refl)
+      zero-neither (question15 L s) (rw (le-leb (program s .atoms) (L .taken .atoms) (omega arith), small) refl)
 
   whole-sequence : (s q : List ℕ) → SequenceFits L s q
   unfolding ask
@@ -169,7 +166,7 @@ module _ (L : Limits) (W : WholeFormat L) where
       let size = Q .size in
       let most = W .entries in
       let rest = length-drop 3 q in
-      zero-fits (question16 L q) (rw (le-leb (length (entries q)) (L .taken .entries) (omega arith)) refl)
+      zero-neither (question16 L q) (rw (le-leb (length (entries q)) (L .taken .entries) (omega arith)) refl)
 
   whole-fits : (c : Call) → CallFits L c
   unfolding CallFits
@@ -194,7 +191,7 @@ then-agree a b c d A C n =
     by-bool (eqb a 0)
     (λ t.
     let z = eqb-true a 0 t in
-    let same : b ≡ 0 = sym (A (zero-fits a z)) ∙ z in
+    let same : b ≡ 0 = sym (A (zero-neither a z)) ∙ z in
     then-zero a c z ∙ (C (subst Neither (then-zero a c z) n) ∙ sym (then-zero b d same)))
     (λ f.
     let ne = eqb-false a 0 f in
@@ -273,6 +270,11 @@ decided-follows L c o b (refuses k K e m) =
 decided-follows L c o b (answers y e m) =
     record { is = e ∙ sym (rw (yes-first (questions L c) y) refl); leaves = m ∙ ap (λ o. left o c) (sym e) }
 
+-- Where it is not refused by 15 or by 16, the first no is another question's, if there is one.
+decided-neither : (L : Limits) (c : Call) (o : Outcome) (b : Buffer) → Decided L c o b → (o ≡ refused 15 → ⊥) → (o ≡ refused 16 → ⊥) → Neither (first (questions L c))
+decided-neither L c o b (refuses k K e m) x y = let f = no-first (questions L c) k K in (λ z. x (e ∙ ap refused (sym f ∙ z)), λ z. y (e ∙ ap refused (sym f ∙ z)))
+decided-neither L c o b (answers a e m) x y = zero-neither (first (questions L c)) (yes-first (questions L c) a)
+
 module _ (L M : Limits) (F : OneFormat L M) (N : Narrower L M) (S T : Service) (D : Demand1 L S) (E : Demand1 M T) where
   agreed : (c : Call) (o p : Outcome) (b d : Buffer) → S c o b → T c p d → Neither (first (questions L c)) → (p ≡ o) × (d ≡ b)
   agreed c o p b d A B n =
@@ -285,9 +287,7 @@ pub one-service : OneService
 one-service L M F N S T D E =
     record {
       within = λ c o p b d A B y. agreed L M F N S T D E c o p b d A B (call-neither L c (within-fits L c y));
-      otherwise = λ c k p b d A B x y.
-          let e = decided-number L c b k (D c (refused k) b A) in
-          agreed L M F N S T D E c (refused k) p b d A B (λ z. x (sym e ∙ z), λ z. y (sym e ∙ z));
+      otherwise = λ c o p b d A B x y. agreed L M F N S T D E c o p b d A B (decided-neither L c o b (D c o b A) x y);
     }
 
 pub never-too-large : (L : Limits) → WholeFormat L → (S : Service) → Demand1 L S → NeverTooLarge S

@@ -20,20 +20,26 @@ use Rattle.choice.proofs.Unique.{faithful-over-written}
 use Rattle.choice.proofs.Sheets.{program-formed}
 use Rattle.core.specs.Questions.{question8, question16, question9, readQuestions, testQuestions}
 use Rattle.core.specs.Promises.{testOutcome, TestPromise}
-use Rattle.core.specs.inner.Asked.{BothAsked}
+use Rattle.core.specs.inner.Asked.{SheetAsked, SequenceAsked}
 use Rattle.core.specs.declared.Asked.{Asked}
 use Rattle.core.specs.declared.TestAnswer.the-variants as test
 use Rattle.core.proofs.Chains.{read-passed, test-asked}
+use Rattle.core.proofs.Asking.{sheet-says, sequence-says}
 use Rattle.core.proofs.Outcomes.{outcome-refused, outcome-answered}
 
-module _ (L : Limits) (s q : List ℕ) (names sets : List ℕ) (r : Asked) (E : BothAsked L s q names sets r) where
-  pub test-refused : (r .refusal ≡ 0 → ⊥) → TestPromise L s q (test.Refused (r .refusal))
+module _ (L : Limits) (s q es cs ss : List ℕ) (a : Asked) (A : SheetAsked L s es cs ss a) where
+  pub test-sheet : (a .refusal ≡ 0 → ⊥) → TestPromise L s q (test.Refused (a .refusal))
   unfolding TestPromise testOutcome
-  test-refused ne = outcome-refused (testQuestions L s q) (r .refusal) [] (E .says) ne
+  test-sheet ne = outcome-refused (testQuestions L s q) (a .refusal) [] (sheet-says L s q es cs ss a A ne) ne
 
-  pub test-passed : r .refusal ≡ 0 → TestPromise L s q test.Passed
-  unfolding TestPromise testOutcome
-  test-passed z = outcome-answered (testQuestions L s q) [] (sym (E .says) ∙ z)
+  module _ (z : a .refusal ≡ 0) (r : ℕ) (Q : SequenceAsked L (a .atoms) es ss q r) where
+    pub test-sequence : (r ≡ 0 → ⊥) → TestPromise L s q (test.Refused r)
+    unfolding TestPromise testOutcome
+    test-sequence ne = outcome-refused (testQuestions L s q) r [] (sequence-says L s q es cs ss a A z r Q) ne
+
+    pub test-passed : r ≡ 0 → TestPromise L s q test.Passed
+    unfolding TestPromise testOutcome
+    test-passed y = outcome-answered (testQuestions L s q) [] (sym (sequence-says L s q es cs ss a A z r Q) ∙ y)
 
 pub program-accepted : (L : Limits) (s : List ℕ) → readQuestions L s ≡ 0 → wellFormed (program s) ≡ true
 program-accepted L s z = program-formed L s (read-passed L s z .form)

@@ -83,9 +83,6 @@ module _ (L : Limits) (s es cs ss : List ℕ) (r : Asked) (A : SheetAsked L s es
   unfolding componentsOutput
   size = length-map (range 0 (program s .atoms)) (component (program s)) ∙ (length-range 0 (program s .atoms) ∙ sym (K .atoms))
 
-  pub names-low : r .atoms ≤ 64
-  names-low = K .low
-
   pub names-room : (old : List ℕ) → r .atoms ≤ length old → 0 + length (nameBytes cs (r .atoms)) ≤ length old
   names-room old l = let e = ap length bytes in let f = size in omega arith
 

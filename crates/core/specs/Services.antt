@@ -47,8 +47,8 @@ serviceQuestions L (call.count s) = question15 L s ∷ []
 pub record SameAnswers (L : Limits) (S T : Service) : Type 0 where
   -- A sheet and a sequence that pass S's 15 and 16 get the same outcome in both, and the same buffer: bytes, words, clauses, numbers, count and verdict.
   pub within : (c : Call) (o p : Outcome) (b d : Buffer) → S c o b → T c p d → AllYes (serviceQuestions L c) → (p ≡ o) × (d ≡ b)
-  -- Where S refuses by another number than 15 and 16, T refuses by the same.
-  pub otherwise : (c : Call) (k : ℕ) (p : Outcome) (b d : Buffer) → S c (refused k) b → T c p d → (k ≡ 15 → ⊥) → (k ≡ 16 → ⊥) → (p ≡ refused k) × (d ≡ b)
+  -- And so it is wherever S does not refuse by 15 or by 16: T gives the same answer, or refuses by the same number.
+  pub otherwise : (c : Call) (o p : Outcome) (b d : Buffer) → S c o b → T c p d → (o ≡ refused 15 → ⊥) → (o ≡ refused 16 → ⊥) → (p ≡ o) × (d ≡ b)
 
 -- So it is of every two services of one format that meet demand 1, where the first takes no more than the second.
 abbrev pub OneService : Type 1

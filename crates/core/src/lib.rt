@@ -9,6 +9,7 @@ use lparse_output::lparse_length;
 use lparse_output::put_lparse;
 use missing::find_start;
 use missing::put_missing;
+use program::ProgramSize;
 use reader::read_header;
 use reader::read_records;
 use sheet::Limits;
@@ -31,6 +32,8 @@ ghost use lib.ListN.{length, replicate};
 ghost use Rattle.asp.specs.Count.{verdict};
 ghost use Rattle.sheet.specs.inner.Walk.{Walk};
 ghost use Rattle.reader.specs.inner.Tabled.{RecordArrays};
+ghost use Rattle.program.specs.inner.Held.{tableOf};
+ghost use Rattle.translation.specs.inner.Translated.{entries, Room};
 ghost use Rattle.chains.specs.inner.Subsets.{Small};
 ghost use Rattle.writer.specs.inner.Wrote.{Wrote};
 ghost use Rattle.core.specs.Outcome.{fromVerdict};
@@ -38,7 +41,7 @@ ghost use Rattle.core.specs.Outputs.{sequenceHeader};
 ghost use Rattle.core.specs.Promises.{ReadPromise, BodyPromise, SlicePromise, nowhere, FindPromise};
 ghost use Rattle.core.specs.Promises.{ComponentsPromise, DefaultPromise, LparsePromise, TestPromise, MissingPromise, UnfoldedPromise, ClausesPromise, CountPromise};
 ghost use Rattle.core.specs.inner.Places.{Placed};
-ghost use Rattle.core.specs.inner.Asked.{Supported, GraphArrays, sizesAsked, SheetAsked, RecordsAsked, formAsked, TableFor, SequenceAsked, BothKept};
+ghost use Rattle.core.specs.inner.Asked.{Supported, GraphArrays, sizesAsked, SheetAsked, RecordsAsked, formAsked, TableFor, SequenceAsked, ProgramAsked};
 
 // Reading: the refusal, or the numbers of atoms and records.
 pub enum ReadAnswer {
@@ -118,8 +121,8 @@ fn component_refusal(limits: Limits, atoms: usize, largest: usize) -> u32
     0
 }
 
-// The questions about a sheet: 1 to 3, then 4 to 6 as its records are read, then 13, 7 and 15. The records, the edges of their program,
-// the atoms that lead to each, its components' names and their sets are left in the arrays.
+// The questions about a sheet: 1 to 3, then 4 to 6 as its records are read, then 13, 7 and 15. The records, the edges of their program, its
+// components' names and their sets are left in the arrays, and the atoms that lead to each where there is room for them.
 fn ask_records(
     limits: Limits,
     s: &[u8],
@@ -128,12 +131,12 @@ fn ask_records(
     pos: &mut [u64; 128],
     neg: &mut [u64; 128],
     edges: &mut [u64; 64],
-    ancestors: &mut [u64; 64],
     names: &mut [u8; 64],
     sets: &mut [u64; 64],
+    ancestors: &mut [u64],
 ) -> Asked
     requires { ⌜ Supported limits × RecordArrays (now kinds) (now heads) (now pos) (now neg)
-        × GraphArrays (now edges) (now ancestors) (now names) (now sets) ⌝ }
+        × GraphArrays (now edges) (now names) (now sets) ⌝ }
     ensures { λ r. ⌜ RecordsAsked limits (now (s .entry)) (now (kinds .exit)) (now (heads .exit)) (now (pos .exit)) (now (neg .exit))
         (now (edges .exit)) (now (names .exit)) (now (sets .exit)) r ⌝ }
 {
@@ -152,7 +155,7 @@ fn ask_records(
         return refused(13);
     }
     edges_of(n, m, kinds, heads, pos, neg, edges);
-    components_of(atoms, edges, ancestors, names, sets);
+    components_of(atoms, edges, names, sets, ancestors);
     let refusal = component_refusal(limits, atoms, largest(sets, atoms));
     if refusal != 0 {
         return refused(refusal);
@@ -180,7 +183,7 @@ fn ask_sheet(
     let mut heads = [0u8; 128];
     let mut pos = [0u64; 128];
     let mut neg = [0u64; 128];
-    let mut ancestors = [0u64; 64];
+    let mut none = [0u64; 0];
     ask_records(
         limits,
         s,
@@ -189,9 +192,9 @@ fn ask_sheet(
         &mut pos,
         &mut neg,
         edges,
-        &mut ancestors,
         names,
         sets,
+        &mut none,
     )
 }
 
@@ -231,46 +234,80 @@ fn ask_sequence(
     0
 }
 
-// The questions about a sheet, then those about a sequence.
-fn ask_both(
+// What the questions about a sheet and a sequence say: the refusal, or 0 with the size of the sheet's program.
+pub struct AskedProgram {
+    pub refusal: u32,
+    pub size: ProgramSize,
+}
+
+fn no_program(refusal: u32) -> AskedProgram
+    ensures { λ r. ⌜ r .refusal ≡ refusal ⌝ }
+{
+    let size = ProgramSize {
+        atoms: 0,
+        rules: 0,
+        constraints: 0,
+    };
+    AskedProgram { refusal, size }
+}
+
+// The questions about a sheet, then those about a sequence. The table of the sheet's program is left in the arrays, with the negative atoms
+// of the records, and the names and sets of its components.
+fn ask_program(
     limits: Limits,
     s: &[u8],
     q: &[u8],
-    kinds: &mut [u8; 128],
-    heads: &mut [u8; 128],
-    pos: &mut [u64; 128],
+    heads: &mut [u8; 192],
+    pos: &mut [u64; 192],
+    sources: &mut [u8; 192],
     neg: &mut [u64; 128],
+    added: &mut [u8; 192],
     names: &mut [u8; 64],
     sets: &mut [u64; 64],
     table: &mut [u64],
-) -> Asked
-    requires { ⌜ Supported limits × TableFor limits (now table) × RecordArrays (now kinds) (now heads) (now pos) (now neg)
-        × (length (now names) ≡ 64) × (now sets ≡ replicate 64 0) ⌝ }
-    ensures { λ r. ⌜ BothKept limits (now (s .entry)) (now (q .entry))
-        (now (kinds .exit)) (now (heads .exit)) (now (pos .exit)) (now (neg .exit)) (now (names .exit)) (now (sets .exit)) r ⌝ }
+) -> AskedProgram
+    requires { ⌜ Supported limits × TableFor limits (now table) × Room 0 (entries 0 (now heads) (now pos) (now sources) (now added))
+        × (length (now neg) ≡ 128) × (length (now names) ≡ 64) × (now sets ≡ replicate 64 0) ⌝ }
+    ensures { λ r. ⌜ ProgramAsked limits (now (s .entry)) (now (q .entry)) (now (sources .exit)) (now (names .exit)) (now (sets .exit)) (r .refusal)
+        (tableOf (r .size) (now (heads .exit)) (now (pos .exit)) (now (sources .exit)) (now (neg .exit)) (now (added .exit))) ⌝ }
 {
+    let mut kinds = [0u8; 128];
+    let mut record_heads = [0u8; 128];
+    let mut record_pos = [0u64; 128];
     let mut edges = [0u64; 64];
-    let mut ancestors = [0u64; 64];
+    let mut none = [0u64; 0];
     let a = ask_records(
         limits,
         s,
-        kinds,
-        heads,
-        pos,
+        &mut kinds,
+        &mut record_heads,
+        &mut record_pos,
         neg,
         &mut edges,
-        &mut ancestors,
         names,
         sets,
+        &mut none,
     );
     if a.refusal != 0 {
-        return a;
+        return no_program(a.refusal);
     }
     let refusal = ask_sequence(limits, a.atoms, &edges, sets, q, table);
     if refusal != 0 {
-        return refused(refusal);
+        return no_program(refusal);
     }
-    a
+    let size = program_of(
+        a.written,
+        a.records,
+        &kinds,
+        &record_heads,
+        &record_pos,
+        neg,
+        heads,
+        pos,
+        sources,
+        added,
+    );
+    AskedProgram { refusal: 0, size }
 }
 
 // Reading a sheet.
@@ -445,9 +482,9 @@ pub fn lparse(limits: Limits, s: &[u8], out: &mut [u8]) -> WriteAnswer
     let mut pos = [0u64; 128];
     let mut neg = [0u64; 128];
     let mut edges = [0u64; 64];
-    let mut ancestors = [0u64; 64];
     let mut names = [0u8; 64];
     let mut sets = [0u64; 64];
+    let mut none = [0u64; 0];
     let a = ask_records(
         limits,
         s,
@@ -456,9 +493,9 @@ pub fn lparse(limits: Limits, s: &[u8], out: &mut [u8]) -> WriteAnswer
         &mut pos,
         &mut neg,
         &mut edges,
-        &mut ancestors,
         &mut names,
         &mut sets,
+        &mut none,
     );
     let refusal = a.refusal;
     if refusal != 0 {
@@ -478,25 +515,15 @@ pub fn test(limits: Limits, s: &[u8], q: &[u8], table: &mut [u64]) -> TestAnswer
     requires { ⌜ Supported limits × TableFor limits (now table) ⌝ }
     ensures { λ r. ⌜ TestPromise limits (now (s .entry)) (now (q .entry)) r ⌝ }
 {
-    let mut kinds = [0u8; 128];
-    let mut heads = [0u8; 128];
-    let mut pos = [0u64; 128];
-    let mut neg = [0u64; 128];
+    let mut edges = [0u64; 64];
     let mut names = [0u8; 64];
     let mut sets = [0u64; 64];
-    let a = ask_both(
-        limits,
-        s,
-        q,
-        &mut kinds,
-        &mut heads,
-        &mut pos,
-        &mut neg,
-        &mut names,
-        &mut sets,
-        table,
-    );
+    let a = ask_sheet(limits, s, &mut edges, &mut names, &mut sets);
     let refusal = a.refusal;
+    if refusal != 0 {
+        return TestAnswer::Refused(refusal);
+    }
+    let refusal = ask_sequence(limits, a.atoms, &edges, &sets, q, table);
     if refusal != 0 {
         return TestAnswer::Refused(refusal);
     }
@@ -544,20 +571,22 @@ pub fn unfolded(
     requires { ⌜ Supported limits × TableFor limits (now table) ⌝ }
     ensures { λ r. ⌜ UnfoldedPromise limits (now (s .entry)) (now (q .entry)) (now (out .entry)) (now (out .exit)) r ⌝ }
 {
-    let mut kinds = [0u8; 128];
-    let mut heads = [0u8; 128];
-    let mut pos = [0u64; 128];
+    let mut heads = [0u8; 192];
+    let mut pos = [0u64; 192];
+    let mut sources = [0u8; 192];
     let mut neg = [0u64; 128];
+    let mut added = [0u8; 192];
     let mut names = [0u8; 64];
     let mut sets = [0u64; 64];
-    let a = ask_both(
+    let a = ask_program(
         limits,
         s,
         q,
-        &mut kinds,
         &mut heads,
         &mut pos,
+        &mut sources,
         &mut neg,
+        &mut added,
         &mut names,
         &mut sets,
         table,
@@ -566,42 +595,16 @@ pub fn unfolded(
     if refusal != 0 {
         return WriteAnswer::Refused(refusal);
     }
-    let mut rule_heads = [0u8; 192];
-    let mut rule_pos = [0u64; 192];
-    let mut sources = [0u8; 192];
-    let mut added = [0u8; 192];
-    let size = program_of(
-        a.written,
-        a.records,
-        &kinds,
-        &heads,
-        &pos,
-        &neg,
-        &mut rule_heads,
-        &mut rule_pos,
-        &mut sources,
-        &mut added,
-    );
-    if out.len()
-        < unfolded_length(
-            size,
-            &rule_heads,
-            &rule_pos,
-            &sources,
-            &neg,
-            &added,
-            q,
-            &names,
-            &sets,
-        )
-    {
+    let size = a.size;
+    let words = unfolded_length(size, &heads, &pos, &sources, &neg, &added, q, &names, &sets);
+    if out.len() < words {
         return WriteAnswer::Refused(10);
     }
     let length = put_unfolded(
         out,
         size,
-        &rule_heads,
-        &rule_pos,
+        &heads,
+        &pos,
         &sources,
         &neg,
         &added,
@@ -623,20 +626,22 @@ pub fn clauses(
     requires { ⌜ Supported limits × TableFor limits (now table) ⌝ }
     ensures { λ r. ⌜ ClausesPromise limits (now (s .entry)) (now (q .entry)) (now (out .entry)) (now (out .exit)) r ⌝ }
 {
-    let mut kinds = [0u8; 128];
-    let mut heads = [0u8; 128];
-    let mut pos = [0u64; 128];
+    let mut heads = [0u8; 192];
+    let mut pos = [0u64; 192];
+    let mut sources = [0u8; 192];
     let mut neg = [0u64; 128];
+    let mut added = [0u8; 192];
     let mut names = [0u8; 64];
     let mut sets = [0u64; 64];
-    let a = ask_both(
+    let a = ask_program(
         limits,
         s,
         q,
-        &mut kinds,
         &mut heads,
         &mut pos,
+        &mut sources,
         &mut neg,
+        &mut added,
         &mut names,
         &mut sets,
         table,
@@ -645,41 +650,16 @@ pub fn clauses(
     if refusal != 0 {
         return ClausesAnswer::Refused(refusal);
     }
-    let mut rule_heads = [0u8; 192];
-    let mut rule_pos = [0u64; 192];
-    let mut sources = [0u8; 192];
-    let mut added = [0u8; 192];
-    let size = program_of(
-        a.written,
-        a.records,
-        &kinds,
-        &heads,
-        &pos,
-        &neg,
-        &mut rule_heads,
-        &mut rule_pos,
-        &mut sources,
-        &mut added,
-    );
-    let numbers = numbers_of(
-        size,
-        &rule_heads,
-        &rule_pos,
-        &sources,
-        &neg,
-        &added,
-        q,
-        &names,
-        &sets,
-    );
+    let size = a.size;
+    let numbers = numbers_of(size, &heads, &pos, &sources, &neg, &added, q, &names, &sets);
     if out.len() < numbers.words {
         return ClausesAnswer::Refused(10);
     }
     let length = put_clauses(
         out,
         size,
-        &rule_heads,
-        &rule_pos,
+        &heads,
+        &pos,
         &sources,
         &neg,
         &added,
@@ -712,9 +692,9 @@ pub fn count(limits: Limits, s: &[u8]) -> CountAnswer
     let mut pos = [0u64; 128];
     let mut neg = [0u64; 128];
     let mut edges = [0u64; 64];
-    let mut ancestors = [0u64; 64];
     let mut names = [0u8; 64];
     let mut sets = [0u64; 64];
+    let mut ancestors = [0u64; 64];
     let a = ask_records(
         limits,
         s,
@@ -723,9 +703,9 @@ pub fn count(limits: Limits, s: &[u8]) -> CountAnswer
         &mut pos,
         &mut neg,
         &mut edges,
-        &mut ancestors,
         &mut names,
         &mut sets,
+        &mut ancestors,
     );
     let refusal = a.refusal;
     if refusal != 0 {

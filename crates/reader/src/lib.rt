@@ -1,4 +1,4 @@
-// Reading a sheet, in one pass that asks questions 1 to 6 and gathers: a table of records by value.
+// Reading a sheet, in one pass that asks questions 1 to 6 and gathers its records into lent arrays.
 use bits::byte_at;
 use bits::with;
 use sheet::Limits;

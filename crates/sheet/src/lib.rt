@@ -15,8 +15,8 @@ pub struct Taken {
     pub entries: usize,
 }
 
-// The limits of the format: the most atoms, written ones and with the fresh ones, and records of a sheet, atoms of a component, and entries of a sequence; and what the service
-// takes of these.
+// The limits of the format: the most atoms of a sheet, also with the fresh ones, records, atoms of a component and entries of a sequence; and
+// what the service takes of these.
 pub struct Limits {
     pub atoms: usize,
     pub records: usize,

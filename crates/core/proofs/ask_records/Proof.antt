@@ -40,21 +40,21 @@ edges-of-requires c κs =
     let choice = c .before .before .before .before .before .before .before in
     let records = choice .before .before .before in
     let header = records .before .before .before .before .before .before .before in
-    (asked-expandable _ _ (header .before .before .pre .0) _ (header .read-header .ensures) _ _ _ _ (records .before .before .before .before .before .if1 .left) _ (records .read-records .ensures) (choice .before .before .if2 .left) _ (choice .choices-in .ensures) (omega (arith, c .before .before .before .before .before .if3 .left)), header .before .before .pre .2 .edges)
+    (asked-expandable _ _ (header .before .before .before .pre .0) _ (header .read-header .ensures) _ _ _ _ (records .before .before .before .before .before .if1 .left) _ (records .read-records .ensures) (choice .before .before .if2 .left) _ (choice .choices-in .ensures) (omega (arith, c .before .before .before .before .before .if3 .left)), header .before .before .before .pre .2 .edges)
 
 components-of-requires : tie.Need-components-of-requires
 components-of-requires c κs =
     let choice = c .before .before .before .before .before .before .before .before .before .before .before .before in
     let records = choice .before .before .before in
     let header = records .before .before .before .before .before .before .before in
-    (asked-low _ _ (header .before .before .pre .0) _ (header .read-header .ensures) _ _ _ _ (records .before .before .before .before .before .if1 .left) _ (records .read-records .ensures) (choice .before .before .if2 .left) _ (choice .choices-in .ensures) (omega (arith, c .before .before .before .before .before .before .before .before .before .before .if3 .left)), c .before .before .before .before .edges-of .ensures .long, header .before .before .pre .2 .names, header .before .before .pre .2 .sets)
+    (asked-low _ _ (header .before .before .before .pre .0) _ (header .read-header .ensures) _ _ _ _ (records .before .before .before .before .before .if1 .left) _ (records .read-records .ensures) (choice .before .before .if2 .left) _ (choice .choices-in .ensures) (omega (arith, c .before .before .before .before .before .before .before .before .before .before .if3 .left)), c .before .before .before .before .edges-of .ensures .long, header .before .before .before .pre .2 .names, header .before .before .before .pre .2 .sets)
 
 largest-requires : tie.Need-largest-requires
 largest-requires c κs =
-    let choice = c .before .before .before .before .before .before .before .before .before .before .before .before .before .before in
+    let choice = c .before .before .before .before .before .before .before .before .before .before .before .before .before .before .before .before in
     let records = choice .before .before .before in
     let header = records .before .before .before .before .before .before .before in
-    asked-low _ _ (header .before .before .pre .0) _ (header .read-header .ensures) _ _ _ _ (records .before .before .before .before .before .if1 .left) _ (records .read-records .ensures) (choice .before .before .if2 .left) _ (choice .choices-in .ensures) (omega (arith, c .before .before .before .before .before .before .before .before .before .before .before .before .if3 .left))
+    asked-low _ _ (header .before .before .before .pre .0) _ (header .read-header .ensures) _ _ _ _ (records .before .before .before .before .before .if1 .left) _ (records .read-records .ensures) (choice .before .before .if2 .left) _ (choice .choices-in .ensures) (omega (arith, c .before .before .before .before .before .before .before .before .before .before .before .before .before .before .if3 .left))
 
 component-refusal-requires : tie.Need-component-refusal-requires
 component-refusal-requires c κs = search needs
@@ -62,19 +62,25 @@ component-refusal-requires c κs = search needs
 refused-requires-4 : tie.Need-refused-requires-4
 refused-requires-4 c κs = search needs
 
+same-length : tie.Need-same-length
+same-length c = search needs
+
 returns-4 : tie.Need-returns-4
 returns-4 c =
-    let choice = c .before .before .before .before .before .before .before .before .before .before .before .before .before .before .before .before .before .before in
+    let choice = c .before .before .before .before .before .before .before .before .before .before .before .before .before .before .before .before .before .before .before .before in
     let records = choice .before .before .before in
     let header = records .before .before .before .before .before .before .before in
-    asked-large _ _ (header .before .before .pre .0) _ (header .read-header .ensures) _ _ _ _ (records .before .before .before .before .before .if1 .left) _ (records .read-records .ensures) (choice .before .before .if2 .left) _ (choice .choices-in .ensures) (omega (arith, c .before .before .before .before .before .before .before .before .before .before .before .before .before .before .before .before .if3 .left)) _ _ _ (c .before .before .before .before .before .before .before .before .before .before .edges-of .ensures) (c .before .before .before .before .before .components-of .ensures) _ (c .before .before .before .largest .ensures) _ _ (c .before .before .component-refusal .ensures) (search needs) (c .refused4 .ensures)
+    asked-large _ _ (header .before .before .before .pre .0) _ (header .read-header .ensures) _ _ _ _ (records .before .before .before .before .before .if1 .left) _ (records .read-records .ensures) (choice .before .before .if2 .left) _ (choice .choices-in .ensures) (omega (arith, c .before .before .before .before .before .before .before .before .before .before .before .before .before .before .before .before .before .before .if3 .left)) _ _ _ (c .before .before .before .before .before .before .before .before .before .before .before .before .edges-of .ensures) (c .before .before .before .before .before .before .before .components-of .ensures) _ (c .before .before .before .largest .ensures) _ _ (c .before .before .component-refusal .ensures) (search needs) (c .refused4 .ensures)
+
+same-length-2 : tie.Need-same-length-2
+same-length-2 c = search needs
 
 returns-5 : tie.Need-returns-5
 returns-5 c =
-    let choice = c .before .before .before .before .before .before .before .before .before .before .before .before .before .before .before .before .before in
+    let choice = c .before .before .before .before .before .before .before .before .before .before .before .before .before .before .before .before .before .before .before in
     let records = choice .before .before .before in
     let header = records .before .before .before .before .before .before .before in
-    asked-fine _ _ (header .before .before .pre .0) _ (header .read-header .ensures) _ _ _ _ (records .before .before .before .before .before .if1 .left) _ (records .read-records .ensures) (choice .before .before .if2 .left) _ (choice .choices-in .ensures) (omega (arith, c .before .before .before .before .before .before .before .before .before .before .before .before .before .before .before .if3 .left)) _ _ _ (c .before .before .before .before .before .before .before .before .before .edges-of .ensures) (c .before .before .before .before .components-of .ensures) _ (c .before .before .largest .ensures) _ (c .before .component-refusal .ensures) (search needs)
+    asked-fine _ _ (header .before .before .before .pre .0) _ (header .read-header .ensures) _ _ _ _ (records .before .before .before .before .before .if1 .left) _ (records .read-records .ensures) (choice .before .before .if2 .left) _ (choice .choices-in .ensures) (omega (arith, c .before .before .before .before .before .before .before .before .before .before .before .before .before .before .before .before .before .if3 .left)) _ _ _ (c .before .before .before .before .before .before .before .before .before .before .before .edges-of .ensures) (c .before .before .before .before .before .before .components-of .ensures) _ (c .before .before .largest .ensures) _ (c .before .component-refusal .ensures) (search needs)
 
 pub ask-records-spec : {M : Type 1} → statement M
 ask-records-spec =
@@ -95,5 +101,7 @@ ask-records-spec =
     largest-requires
     component-refusal-requires
     refused-requires-4
+    same-length
     returns-4
+    same-length-2
     returns-5)

@@ -1,5 +1,6 @@
 -- `core::components` meets its contract, one law for each way through it.
-use Rattle.core.proofs.Writing.{components-refused, components-full, names-low, names-room, components-done}
+use Rattle.core.proofs.Asking.{sheet-low}
+use Rattle.core.proofs.Writing.{components-refused, components-full, names-room, components-done}
 use borrow.Author.Needs.{needs}
 use Rattle.core.proofs.components.Statement.{statement}
 use Rattle.core.proofs.components.Tie as tie
@@ -14,7 +15,7 @@ returns-2 : tie.Need-returns-2
 returns-2 c = search (needs, components-full)
 
 put-names-requires : tie.Need-put-names-requires
-put-names-requires c κs = search (needs, names-low, names-room)
+put-names-requires c κs = search (needs, sheet-low, names-room)
 
 same-length : tie.Need-same-length
 same-length c = search needs

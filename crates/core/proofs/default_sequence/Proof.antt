@@ -1,5 +1,6 @@
 -- `core::default_sequence` meets its contract, one law for each way through it.
-use Rattle.core.proofs.Writing.{default-refused, names-low, entries-fit, default-full, blocks-room, default-done}
+use Rattle.core.proofs.Asking.{sheet-low}
+use Rattle.core.proofs.Writing.{default-refused, entries-fit, default-full, blocks-room, default-done}
 use borrow.Author.Needs.{needs}
 use Rattle.core.proofs.default_sequence.Statement.{statement}
 use Rattle.core.proofs.default_sequence.Tie as tie
@@ -11,7 +12,7 @@ returns : tie.Need-returns
 returns c = search (needs, default-refused)
 
 blocks-length-requires : tie.Need-blocks-length-requires
-blocks-length-requires c κs = search (needs, names-low)
+blocks-length-requires c κs = search (needs, sheet-low)
 
 add-if2 : tie.Need-add-if2
 add-if2 c = search (needs, entries-fit)
@@ -23,7 +24,7 @@ put-header-requires : tie.Need-put-header-requires
 put-header-requires c κs = search needs
 
 put-blocks-requires : tie.Need-put-blocks-requires
-put-blocks-requires c κs = search (needs, names-low, blocks-room)
+put-blocks-requires c κs = search (needs, sheet-low, blocks-room)
 
 same-length : tie.Need-same-length
 same-length c = search needs

@@ -4,6 +4,9 @@ use borrow.Author.Needs.{needs}
 use Rattle.core.proofs.lparse.Statement.{statement}
 use Rattle.core.proofs.lparse.Tie as tie
 
+slice-aggregate-ask-records : tie.Need-slice-aggregate-ask-records
+slice-aggregate-ask-records c = search needs
+
 ask-records-requires : tie.Need-ask-records-requires
 ask-records-requires c κs = search needs
 
@@ -11,26 +14,27 @@ returns : tie.Need-returns
 returns c = search (needs, lparse-refused)
 
 lparse-length-requires : tie.Need-lparse-length-requires
-lparse-length-requires c κs = lparse-sizes _ _ _ _ _ _ _ _ _ _ (c .before .before .before .before .before .ask-records .ensures) (search needs) (c .before .before .before .before .before .before .before .before .before .before .before .before .before .before .before .before .pre)
+lparse-length-requires c κs = lparse-sizes _ _ _ _ _ _ _ _ _ _ (c .before .before .before .before .before .before .ask-records .ensures) (search needs) (c .before .before .before .before .before .before .before .before .before .before .before .before .before .before .before .before .before .pre)
 
 returns-2 : tie.Need-returns-2
-returns-2 c = lparse-full _ _ _ _ _ _ _ _ _ _ (c .before .before .before .before .before .before .before .ask-records .ensures) (search needs) _ _ (c .before .lparse-length .ensures) (search needs)
+returns-2 c = lparse-full _ _ _ _ _ _ _ _ _ _ (c .before .before .before .before .before .before .before .before .ask-records .ensures) (search needs) _ _ (c .before .lparse-length .ensures) (search needs)
 
 put-lparse-requires : tie.Need-put-lparse-requires
 put-lparse-requires c κs =
-    let sizes = lparse-sizes _ _ _ _ _ _ _ _ _ _ (c .before .before .before .before .before .before .before .before .before .before .before .before .ask-records .ensures) (search needs) (c .before .before .before .before .before .before .before .before .before .before .before .before .before .before .before .before .before .before .before .before .before .before .before .pre) in
+    let sizes = lparse-sizes _ _ _ _ _ _ _ _ _ _ (c .before .before .before .before .before .before .before .before .before .before .before .before .before .ask-records .ensures) (search needs) (c .before .before .before .before .before .before .before .before .before .before .before .before .before .before .before .before .before .before .before .before .before .before .before .before .pre) in
     (sizes .0, sizes .1, search needs)
 
 same-length : tie.Need-same-length
 same-length c = search needs
 
 returns-3 : tie.Need-returns-3
-returns-3 c = lparse-done _ _ _ _ _ _ _ _ _ _ (c .before .before .before .before .before .before .before .before .before .before .before .before .before .before .before .ask-records .ensures) (search needs) _ _ (c .before .before .before .before .before .before .before .before .before .lparse-length .ensures) _ _ (search needs) (c .before .before .put-lparse .ensures)
+returns-3 c = lparse-done _ _ _ _ _ _ _ _ _ _ (c .before .before .before .before .before .before .before .before .before .before .before .before .before .before .before .before .ask-records .ensures) (search needs) _ _ (c .before .before .before .before .before .before .before .before .before .lparse-length .ensures) _ _ (search needs) (c .before .before .put-lparse .ensures)
 
 pub lparse-spec : {M : Type 1} → statement M
 lparse-spec =
     tie.close
     (tie.spec
+    slice-aggregate-ask-records
     ask-records-requires
     returns
     lparse-length-requires

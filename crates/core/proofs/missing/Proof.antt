@@ -1,9 +1,7 @@
 -- `core::missing` meets its contract, one law for each way through it.
 use mathlib.Core.List.{[]}
-use Rattle.core.proofs.Asking.{sequence-long, sequence-low}
-use Rattle.core.proofs.Finding.{still-room, missing-refused, missing-small, missing-malformed, missing-low, missing-none, missing-roomy, some-missing, missing-no-room, missing-put}
-use Rattle.core.proofs.Writing.{names-low}
-use Rattle.core.proofs.Finding.{missing-refused, missing-small, missing-malformed, missing-low, missing-none, missing-roomy, some-missing, missing-no-room, missing-put}
+use Rattle.core.proofs.Asking.{sheet-low, sheet-small, sequence-long, sequence-low}
+use Rattle.core.proofs.Finding.{still-room, missing-refused, missing-malformed, missing-low, missing-none, missing-roomy, some-missing, missing-no-room, missing-put}
 use borrow.Author.Needs.{needs}
 use Rattle.core.proofs.missing.Statement.{statement}
 use Rattle.core.proofs.missing.Tie as tie
@@ -21,7 +19,7 @@ returns-2 : tie.Need-returns-2
 returns-2 c = search (needs, missing-malformed)
 
 find-start-requires : tie.Need-find-start-requires
-find-start-requires c κs = search (needs, names-low, missing-small, sequence-long, sequence-low)
+find-start-requires c κs = search (needs, sheet-low, sheet-small, sequence-long, sequence-low)
 
 same-length : tie.Need-same-length
 same-length c = search needs

@@ -17,6 +17,8 @@ use Rattle.reader.specs.inner.Tabled.{recordsAt, ExactSets, RecordArrays}
 use Rattle.components.specs.Limit.{componentsFit}
 use Rattle.components.specs.inner.Reachability.{EdgesOf, ComponentsOf}
 use Rattle.chains.specs.inner.Subsets.{Graph}
+use Rattle.program.specs.inner.Held.{ProgramTable, Sources, programIn}
+use Rattle.copies.specs.inner.Ready.{Ready}
 use Rattle.core.specs.Questions.{question16, readQuestions, testQuestions}
 use Rattle.core.specs.declared.Asked.{Asked}
 
@@ -60,9 +62,8 @@ unfoldable pub sizesAsked : Limits → ℕ → ℕ → ℕ
 sizesAsked L n largest = ask (leb largest (L .component)) 7 then ask (leb n (L .taken .atoms) && leb largest (L .taken .component)) 15
 
 -- Arrays for a graph, of 64 rows; those of the edges and of the sets are empty.
-pub record GraphArrays (es bs ns ss : List ℕ) : Type 0 where
+pub record GraphArrays (es ns ss : List ℕ) : Type 0 where
   pub edges : es ≡ replicate 64 0
-  pub ancestors : length bs ≡ 64
   pub names : length ns ≡ 64
   pub sets : ss ≡ replicate 64 0
 
@@ -78,17 +79,13 @@ pub record SequenceAsked (L : Limits) (n : ℕ) (edges sets q : List ℕ) (r : �
 abbrev pub TableFor : Limits → List ℕ → Type 0
 TableFor L table = 2 ^ L .taken .component ≤ length table
 
--- A sheet and a sequence that are not refused.
-pub record BothAccepted (L : Limits) (s q names sets : List ℕ) (r : Asked) : Type 0 where
-  pub sheet : SheetAccepted L s names sets r
-  pub formed : sequenceFits L (program s .atoms) q ≡ true
+-- The table of the program of a sheet that is not refused, with its sources, the components' names and sets, and a sequence that is not refused.
+pub record ProgramKept (s q sources names sets : List ℕ) (t : ProgramTable) : Type 0 where
+  pub is : programIn t ≡ program s
+  pub sourced : Sources sources
+  pub ready : Ready t names sets q
 
--- The questions about a sheet and a sequence.
-pub record BothAsked (L : Limits) (s q names sets : List ℕ) (r : Asked) : Type 0 where
-  pub says : r .refusal ≡ testQuestions L s q
-  pub accepted : r .refusal ≡ 0 → BothAccepted L s q names sets r
-
--- The same, with the records of the sheet.
-pub record BothKept (L : Limits) (s q ks hs ps ns names sets : List ℕ) (r : Asked) : Type 0 where
-  pub asked : BothAsked L s q names sets r
-  pub kept : r .refusal ≡ 0 → RecordsKept s ks hs ps ns r
+-- The questions about a sheet and a sequence, and the sheet's program where there is no refusal.
+pub record ProgramAsked (L : Limits) (s q sources names sets : List ℕ) (refusal : ℕ) (t : ProgramTable) : Type 0 where
+  pub says : refusal ≡ testQuestions L s q
+  pub kept : refusal ≡ 0 → ProgramKept s q sources names sets t
