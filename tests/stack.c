@@ -10,9 +10,9 @@
 #include <ucontext.h>
 
 enum { STACK = 1 << 20, PATTERN = 0xa5, ROOM = RULESHEET_CLAUSES_ROOM };
-/* What the headers promise: a call takes no more, of the hub and of its count; and the longest default sequence of the office, whose
- * room holds longer ones, too. */
-enum { OFFICE_STACK = 18 * 1024, HUB_STACK = 8 * 1024, HUB_COUNT_STACK = 16 * 1024, OFFICE_DEFAULT = 619 };
+/* What the headers say: the most stack of a call, at most 18 KB in the office and less than 8 KB in the hub, less than 16 KB for its
+ * count; and the longest default sequence of the office, whose room holds longer ones, too. */
+enum { OFFICE_STACK = 18 * 1024, HUB_STACK = 8 * 1024 - 1, HUB_COUNT_STACK = 16 * 1024 - 1, OFFICE_DEFAULT = 619 };
 
 static uint8_t stack[STACK];
 static ucontext_t here, there;
