@@ -10,7 +10,7 @@ use lib.ListN.{length, getD, drop, drop-of-length-le}
 use lib.Seq.{drop-cons}
 use Rattle.lists.specs.Lists.{all, any, below, member}
 use Rattle.lists.proofs.Bools.{and-left, and-right}
-use Rattle.bits.specs.inner.Sets.{has, With, ByteAt, Gathered}
+use Rattle.bits.specs.inner.Sets.{has, With, Gathered}
 use Rattle.bits.proofs.Digits.{zero-has}
 
 pub record Gathering (l : List ℕ) (i x : ℕ) : Type 0 where
@@ -23,22 +23,22 @@ gathering-start l h = record { left = h; members = λ b. ap (λ (y : Bool). memb
 next : (l : List ℕ) (i : ℕ) → i < length l → drop i l ≡ getD l i 0 ∷ drop (suc i) l
 next l i h = drop-cons l i 0 h
 
-pub gathering-low : (l : List ℕ) (i x b : ℕ) → Gathering l i x → i < length l → ByteAt l i b → b < 64
+pub gathering-low : (l : List ℕ) (i x b : ℕ) → Gathering l i x → i < length l → b ≡ getD l i 0 → b < 64
 unfolding below all
-gathering-low l i x b G h B =
+gathering-low l i x b G h is =
     let t : below 64 (getD l i 0 ∷ drop (suc i) l) ≡ true = rw (next l i h) at (G .left) in
-    subst (λ n. n < 64) (sym (B .is)) (ltb-true (getD l i 0) 64 (and-left (ltb (getD l i 0) 64) (below 64 (drop (suc i) l)) t))
+    subst (λ n. n < 64) (sym is) (ltb-true (getD l i 0) 64 (and-left (ltb (getD l i 0) 64) (below 64 (drop (suc i) l)) t))
 
-pub gathering-turn : (l : List ℕ) (i x b r : ℕ) → Gathering l i x → i < length l → ByteAt l i b → With x b r → Gathering l (i + 1) r
+pub gathering-turn : (l : List ℕ) (i x b r : ℕ) → Gathering l i x → i < length l → b ≡ getD l i 0 → With x b r → Gathering l (i + 1) r
 unfolding below all member any
-gathering-turn l i x b r G h B W =
+gathering-turn l i x b r G h is W =
     rw add-one
     record {
       left = and-right (ltb (getD l i 0) 64) (below 64 (drop (suc i) l)) (rw (next l i h) at (G .left));
       members = λ a.
           let rest = member a (drop (suc i) l) in
           let here = eqb a (getD l i 0) in
-          ap (λ (y : Bool). rest || y) (W .members a ∙ ap (λ n. eqb a n || has x a) (B .is))
+          ap (λ (y : Bool). rest || y) (W .members a ∙ ap (λ n. eqb a n || has x a) is)
           ∙ (sym (or-assoc rest here (has x a)) ∙ (ap (λ (y : Bool). y || has x a) (or-comm rest here) ∙ (rw (next l i h) at (G .members a))));
     }
 

@@ -40,7 +40,7 @@ pub fn gather(l: &[u8]) -> u64
     let mut x: u64 = 0;
     let mut i = 0;
     while i < l.len() {
-        x = with(x, byte_at(l, i));
+        x = with(x, wide(l[i]));
         i += 1;
     }
     x

@@ -19,7 +19,7 @@ use Rattle.unfolding.specs.Chain.{Chain}
 use Rattle.unfolding.specs.inner.Started.{Started}
 use Rattle.unfolding.proofs.Chains.{component-at}
 use Rattle.unfolding.proofs.Starting.{started-none, started-more, started-other, started-onward, started-own}
-use Rattle.bits.specs.inner.Sets.{has, ByteAt, Subset}
+use Rattle.bits.specs.inner.Sets.{has, Subset}
 use Rattle.bits.proofs.Digits.{zero-has}
 use Rattle.chains.proofs.Places.{full-places, full-small}
 use Rattle.chains.specs.inner.Subsets.{Setting, AtPlaces, SubsetTable, RowAfter, TableAfter, Followers, PlaceOf, Power, Entered, Cleared, Filled, Tested}
@@ -162,13 +162,13 @@ module _ (rows atoms : List ℕ) (k : ℕ) (q : List ℕ) where
         table = λ P K. subst (SubsetTable P atoms k sets) (sym (drop-length q)) (table-start P rows atoms k K sets (λ S m. Z .empty S (let e = N .is in omega arith)));
       }
 
-  pub reading-turn : (from i x : ℕ) (old new : List ℕ) → Reading rows atoms k q from i old → from < i → ByteAt q (i - 1) x → Entered rows atoms k x old new → Reading rows atoms k q from (i - 1) new
-  reading-turn from i x old new R l B E =
+  pub reading-turn : (from i x : ℕ) (old new : List ℕ) → Reading rows atoms k q from i old → from < i → x ≡ getD q (i - 1) 0 → Entered rows atoms k x old new → Reading rows atoms k q from (i - 1) new
+  reading-turn from i x old new R l is E =
       let h = R .inside in
       record {
         start = omega arith;
         inside = omega arith;
-        table = λ P K. subst (SubsetTable P atoms k new) (ap (λ y. y ∷ drop i q) (B .is) ∙ (ap (λ j. getD q (i - 1) 0 ∷ drop j q) (let e : i ≡ suc (i - 1) = omega arith in e) ∙ sym (drop-cons q (i - 1) 0 (omega arith))))
+        table = λ P K. subst (SubsetTable P atoms k new) (ap (λ y. y ∷ drop i q) is ∙ (ap (λ j. getD q (i - 1) 0 ∷ drop j q) (let e : i ≡ suc (i - 1) = omega arith in e) ∙ sym (drop-cons q (i - 1) 0 (omega arith))))
             (E .turns P (drop i q) K (R .table P K));
       }
 
@@ -194,11 +194,11 @@ module _ (rows atoms : List ℕ) (k : ℕ) (s : List ℕ) where
           S .all-inside (λ p t. let m = ltb-true p k (sym (full-places k size N p) ∙ t) in F .table P K .right (size - 1) (full-small k size N) p m t .1 (λ w C _. h p m w C))
 
 -- What the code asks on the way: an entry is an atom.
-pub reading-low : (rows atoms : List ℕ) (k : ℕ) (q : List ℕ) (from i x : ℕ) (sets : List ℕ) → Reading rows atoms k q from i sets → 3 ≤ from → from < i → below 64 (drop 3 q) ≡ true → ByteAt q (i - 1) x → x < 64
-reading-low rows atoms k q from i x sets R few l h B =
+pub reading-low : (rows atoms : List ℕ) (k : ℕ) (q : List ℕ) (from i x : ℕ) (sets : List ℕ) → Reading rows atoms k q from i sets → 3 ≤ from → from < i → below 64 (drop 3 q) ≡ true → x ≡ getD q (i - 1) 0 → x < 64
+reading-low rows atoms k q from i x sets R few l h is =
     let n = R .inside in
     let j = i - 1 in
-    subst (λ y. y < 64) (sym (B .is))
+    subst (λ y. y < 64) (sym is)
     (below-at 64 (drop j q) (below-in 64 (drop j q) (λ a n. below-at 64 (drop 3 q) h a (mem-sublist later n))) (getD q j 0) (subst (List·Memᴰ (getD q j 0)) (sym (drop-cons q j 0 (omega arith))) (List·Memᴰ·head refl)))
   where
     shorter : (k : ℕ) (l : List ℕ) → Sublistᴰ (drop k l) l

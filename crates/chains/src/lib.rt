@@ -1,5 +1,4 @@
 // The chain question: a table over the sets of a component's atoms, and one pass over the sequence from its last entry to its first.
-use bits::byte_at;
 use bits::gather;
 use bits::has;
 use bits::intersection;
@@ -124,15 +123,15 @@ fn clear(sets: &mut [u64], size: usize)
 }
 
 // Fills the table for a component, the first k atoms, by the entries from a position of the sequence on.
-pub fn fill(sets: &mut [u64], rows: &[u64; 64], atoms: &[u8; 16], k: usize, q: &[u8], from: usize)
+pub fn fill(sets: &mut [u64], rows: &[u64; 64], atoms: &[u8; 16], k: usize, q: &[u8], from: u16)
     requires { ⌜ Roomy k (length (now sets)) × Low (now atoms) k × (3 ≤ from) × (from ≤ length (now q)) × (below 64 (drop 3 (now q)) ≡ true) ⌝ }
     ensures { λ r. ⌜ Filled (now (rows .entry)) (now (atoms .entry)) k (drop from (now (q .entry))) (now (sets .exit)) ⌝ }
 {
     clear(sets, power(k));
     let mut i = q.len();
-    while from < i {
+    while (from as usize) < i {
         i -= 1;
-        enter(sets, rows, atoms, k, byte_at(q, i));
+        enter(sets, rows, atoms, k, wide(q[i]));
     }
 }
 

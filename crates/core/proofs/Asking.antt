@@ -33,6 +33,7 @@ use Rattle.components.specs.inner.Reachability.{EdgesOf, SetsOf, named, namesFi
 use Rattle.components.proofs.Naming.{sets-named}
 use Rattle.components.proofs.Graphs.{fits-same, fits-members, named-members}
 use Rattle.chains.specs.inner.Subsets.{Graph, Small, PassesBy}
+use Rattle.missing.specs.inner.Extending.{Position}
 use Rattle.choice.proofs.Sheets.{program-formed}
 use Rattle.core.specs.Questions.{question13, question7, question15, question8, question16, question9, readQuestions, testQuestions}
 use Rattle.core.specs.inner.Asked.{Supported, sizesAsked, SheetAccepted, SheetAsked, RecordsAsked, formAsked, SequenceAsked}
@@ -257,6 +258,14 @@ module _ (L : Limits) (n : ℕ) (es ss q : List ℕ) (f : ℕ) (F : f ≡ formAs
 
     pub sequence-low : below n (entries q) ≡ true
     sequence-low = fits-out L n q fitting .low
+
+    pub sequence-position : Supported L → Position q 3
+    sequence-position S =
+        let fits = fits-out L n q fitting in
+        let few = fits .few in
+        let size = fits .size in
+        let most = S .entries in
+        record { start = omega arith; inside = fits .three; short = omega arith }
 
     module _ (c : Bool) (C : PassesBy n es ss (entries q) c) where
       answers : (P : Program) → Graph P n es ss → ask c 9 ≡ formAsked L n q then ask (passes P (entries q)) 9

@@ -15,7 +15,7 @@ use Rattle.lists.proofs.Members.{range-in}
 use Rattle.lists.proofs.Nodup.{nodup-range, filter-lt}
 use Rattle.lists.proofs.Sublists.{sublist-tail, sublist-mem}
 use Rattle.unfolding.proofs.Chains.{chain-one}
-use Rattle.bits.specs.inner.Sets.{has, ByteAt, Without, Both}
+use Rattle.bits.specs.inner.Sets.{has, Without, Both}
 use Rattle.bits.specs.inner.Listed.{RisesTo}
 use Rattle.bits.specs.inner.Visited.{listed, Lowest}
 use Rattle.chains.specs.inner.Subsets.{AtPlaces, Filled, Followers}
@@ -23,29 +23,30 @@ use Rattle.writer.specs.inner.Wrote.{Wrote}
 use Rattle.writer.proofs.Writing.{wrote-append, wrote-length}
 use Rattle.missing.specs.declared.Extension.{Extension}
 use Rattle.missing.specs.inner.Lacking.{Lacking}
-use Rattle.missing.specs.inner.Extending.{LacksFrom, FirstMissing, Behind, Fits, SomeLacks, Next, ChainPut}
+use Rattle.missing.specs.inner.Extending.{LacksFrom, FirstMissing, Position, Behind, Fits, SomeLacks, Next, ChainPut}
+use Rattle.missing.proofs.Positions.{position-next}
 use Rattle.missing.proofs.Extensions.{first-last, some-place, next-lacks, next-first}
 
 -- What starts with a is found from position i on just when it is from an earlier one.
 pub record Passing (q : List ℕ) (from a i : ℕ) : Type 0 where
-  pub later : from ≤ i
-  pub inside : i ≤ length q
+  pub position : Position q i
   pub same : (v : List ℕ) → Sublistᴰ (a ∷ v) (drop from q) ↔ Sublistᴰ (a ∷ v) (drop i q)
 
 module _ (q : List ℕ) (from a : ℕ) where
-  pub passing-start : from ≤ length q → Passing q from a from
-  passing-start l = record { later = omega arith; inside = l; same = λ v. (λ h. h, λ h. h) }
+  pub passing-start : Position q from → Passing q from a from
+  passing-start P = record { position = P; same = λ v. (λ h. h, λ h. h) }
 
-  module _ (i x : ℕ) (R : Passing q from a i) (l : i < length q) (B : ByteAt q i x) where
+  module _ (i x : ℕ) (R : Passing q from a i) (l : i < length q) (is : x ≡ getD q i 0) where
     entry : drop i q ≡ x ∷ drop (i + 1) q
-    entry = drop-cons q i 0 l ∙ (ap (λ y. y ∷ drop (suc i) q) (sym (B .is)) ∙ ap (λ j. x ∷ drop j q) (let e : suc i ≡ i + 1 = omega arith in e))
+    entry = drop-cons q i 0 l ∙ (ap (λ y. y ∷ drop (suc i) q) (sym is) ∙ ap (λ j. x ∷ drop j q) (let e : suc i ≡ i + 1 = omega arith in e))
+
+    next : Position q (i + 1)
+    next = position-next q i (R .position) l
 
     pub passing-turn : (x ≡ a → ⊥) → Passing q from a (i + 1)
     passing-turn ne =
-        let h = R .later in
         record {
-          later = omega arith;
-          inside = omega arith;
+          position = next;
           same = λ v. (
             λ f. ⊎-elim (λ g. g) (λ g. absurd (ne (sym (g .0)))) (Sublistᴰ·cases-cons-cons (subst (Sublistᴰ (a ∷ v)) entry (R .same v .0 f))),
             λ f. R .same v .1 (subst (Sublistᴰ (a ∷ v)) (sym entry) (Sublistᴰ·cons f)),
@@ -54,21 +55,18 @@ module _ (q : List ℕ) (from a : ℕ) where
 
     pub passing-found : x ≡ a → Behind q from a (i + 1)
     passing-found e =
-        let h = R .later in
         record {
-          later = omega arith;
-          inside = omega arith;
+          position = next;
           onward = λ v f. ⊎-elim (λ g. sublist-tail g) (λ g. g .1) (Sublistᴰ·cases-cons-cons (subst (Sublistᴰ (a ∷ v)) entry (R .same v .0 f)));
           back = λ v m f. R .same v .1 (subst (Sublistᴰ (a ∷ v)) (sym entry) (Sublistᴰ·cons-cons (sym e) f));
         }
 
   pub passing-end : (i : ℕ) → Passing q from a i → length q ≤ i → Behind q from a i
   passing-end i R l =
-      let h = R .inside in
+      let h = R .position .inside in
       let none : drop i q ≡ [] = ap (λ j. drop j q) (let e : i ≡ length q = omega arith in e) ∙ drop-length q in
       record {
-        later = R .later;
-        inside = R .inside;
+        position = R .position;
         onward = λ v f. absurd (cons≢nil (Sublistᴰ·eq-nil (subst (Sublistᴰ (a ∷ v)) none (R .same v .0 f))));
         back = λ v m f. absurd (cons≢nil (Sublistᴰ·eq-nil (subst (Sublistᴰ (a ∷ [])) none (R .same [] .0 (sublist-mem m)))));
       }
@@ -108,8 +106,7 @@ module _ (rows atoms : List ℕ) (k : ℕ) (few : k ≤ 10) (q : List ℕ) (L : 
         record {
           fits =
               record {
-                start = let h = F .start in let l = B .later in omega arith;
-                inside = B .inside;
+                position = B .position;
                 small = let h = F .small in let l = W .falls in omega arith;
                 low = ltb-true d k (and-left (ltb d k) (has (getD rows (getD atoms d 0) 0) x) (sym (G .members d) ∙ and-left (has after d) (has r d) h));
                 own = u .2 .inside d (u .2 .own);

@@ -1,5 +1,6 @@
 pub mod Rows
 pub mod Sets
+pub mod Positions
 pub mod Extensions
 pub mod Extending
 pub mod Starts

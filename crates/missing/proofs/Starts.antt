@@ -31,7 +31,7 @@ use Rattle.chains.proofs.Components.{setting, named-place, atom-named, places-r
 use Rattle.missing.specs.declared.Start.{Start}
 use Rattle.missing.specs.declared.Extension.{Extension}
 use Rattle.missing.specs.inner.Lacking.{Lacks, Lacking, Shortest}
-use Rattle.missing.specs.inner.Extending.{Fits, LacksAt, FirstAt, SomeLacks, ChainPut}
+use Rattle.missing.specs.inner.Extending.{Position, Fits, LacksAt, FirstAt, SomeLacks, ChainPut}
 use Rattle.missing.specs.inner.Starts.{Begins, noStart, ComponentStart, NotBehind, Earlier, Improved, StartOf, SomeMissing, MissingPut}
 use Rattle.missing.proofs.Sets.{found-unless, lacking-fails}
 
@@ -287,12 +287,11 @@ module _ (rows q : List ℕ) (start : Start) (L : Atoms) (S : Listing (start .se
             (λ e. let g = ltb-false b (start .atom) h in let ne = eqb-false b (start .atom) e in let i = start-is in precedes-not (getD (L .atoms) p 0) b v w (omega arith)))
 
   module _ (X : SomeMissing rows (drop 3 q) start) where
-    pub start-fits : 3 ≤ length q → Fits (L .t) q extension
-    start-fits l =
+    pub start-fits : Position q 3 → Fits (L .t) q extension
+    start-fits first =
         let low = start-low (X .program) (X .edged) (X .begins) (X .there) in
         record {
-          start = omega arith;
-          inside = l;
+          position = first;
           small = full-small (L .t) size N;
           low = low;
           own = full-places (L .t) size N p ∙ lt-ltb p (L .t) low;

@@ -1,5 +1,4 @@
 // The shortest chain that a sequence lacks: where it starts, by the table over sets of a component's atoms, and then atom by atom.
-use bits::byte_at;
 use bits::difference;
 use bits::gather;
 use bits::intersection;
@@ -25,7 +24,7 @@ ghost use Rattle.bits.specs.inner.Listed.{Low, RisesTo};
 ghost use Rattle.bits.specs.inner.Visited.{listed};
 ghost use Rattle.chains.specs.inner.Subsets.{Roomy, Small};
 ghost use Rattle.missing.specs.inner.Lacking.{LackingIn, Lacking, Shortest};
-ghost use Rattle.missing.specs.inner.Extending.{Behind, Fits, SomeLacks, Next, ChainPut};
+ghost use Rattle.missing.specs.inner.Extending.{Position, Behind, Fits, SomeLacks, Next, ChainPut};
 ghost use Rattle.missing.specs.inner.Starts.{noStart, ComponentStart, Earlier, Improved, StartOf, SomeMissing, MissingPut};
 
 // The places that a set's row lacks, where the set lies in `unused` and has at most m places.
@@ -169,13 +168,13 @@ pub fn find_start<'a>(
 }
 
 // The position behind the first a of the sequence from a position on, or its end.
-fn behind(q: &[u8], from: usize, a: usize) -> usize
-    requires { ⌜ from ≤ length (now q) ⌝ }
+fn behind(q: &[u8], from: u16, a: usize) -> u16
+    requires { ⌜ Position (now q) from ⌝ }
     ensures { λ r. ⌜ Behind (now (q .entry)) from a r ⌝ }
 {
     let mut i = from;
-    while i < q.len() {
-        let x = byte_at(q, i);
+    while (i as usize) < q.len() {
+        let x = wide(q[i as usize]);
         i += 1;
         if x == a {
             return i;
@@ -187,7 +186,7 @@ fn behind(q: &[u8], from: usize, a: usize) -> usize
 // How a chain goes on: the position in the sequence behind its atoms so far, the places that are unused, the next of them, and how many
 // atoms are left to write, that one included.
 pub struct Extension {
-    pub from: usize,
+    pub from: u16,
     pub unused: u64,
     pub place: usize,
     pub left: usize,
@@ -254,7 +253,7 @@ pub fn put_missing(
     q: &[u8],
     start: Start,
 ) -> usize
-    requires { ⌜ (start .length ≤ length (now out)) × Roomy (length (listed (start .set))) (length (now table)) × (3 ≤ length (now q)) × (below 64 (drop 3 (now q)) ≡ true) × SomeMissing (now rows) (drop 3 (now q)) start ⌝ }
+    requires { ⌜ (start .length ≤ length (now out)) × Roomy (length (listed (start .set))) (length (now table)) × Position (now q) 3 × (below 64 (drop 3 (now q)) ≡ true) × SomeMissing (now rows) (drop 3 (now q)) start ⌝ }
     ensures { λ r. ⌜ MissingPut (now (rows .entry)) (drop 3 (now (q .entry))) start (now (out .entry)) (now (out .exit)) r ⌝ }
 {
     let list = list_set(start.set);

@@ -24,8 +24,11 @@ loop-holds c = search (needs, reading-start)
 sub-i : tie.Need-sub-i Inv-loop μ-loop
 sub-i c = search needs
 
-byte-at-requires : tie.Need-byte-at-requires Inv-loop μ-loop
-byte-at-requires c κs = search needs
+shared-slice-read-wide : tie.Need-shared-slice-read-wide Inv-loop μ-loop
+shared-slice-read-wide c = search needs
+
+wide-requires : tie.Need-wide-requires Inv-loop μ-loop
+wide-requires c κs = search needs
 
 enter-requires : tie.Need-enter-requires Inv-loop μ-loop
 enter-requires c κs = search (needs, reading-low)
@@ -34,7 +37,7 @@ loop-less : tie.Need-loop-less Inv-loop μ-loop
 loop-less c = search needs
 
 loop-again : tie.Need-loop-again Inv-loop μ-loop
-loop-again c = search (needs, reading-turn)
+loop-again c = (search (needs, reading-turn), search needs)
 
 same-length : tie.Need-same-length Inv-loop μ-loop
 same-length c = search needs
@@ -52,7 +55,8 @@ fill-spec =
     clear-requires
     loop-holds
     sub-i
-    byte-at-requires
+    shared-slice-read-wide
+    wide-requires
     enter-requires
     loop-less
     loop-again

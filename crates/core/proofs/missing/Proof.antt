@@ -1,6 +1,6 @@
 -- `core::missing` meets its contract, one law for each way through it.
 use mathlib.Core.List.{[]}
-use Rattle.core.proofs.Asking.{sheet-low, sheet-small, sequence-long, sequence-low}
+use Rattle.core.proofs.Asking.{sheet-low, sheet-small, sequence-long, sequence-low, sequence-position}
 use Rattle.core.proofs.Finding.{still-room, missing-refused, missing-malformed, missing-low, missing-none, missing-roomy, some-missing, missing-no-room, missing-put}
 use borrow.Author.Needs.{needs}
 use Rattle.core.proofs.missing.Statement.{statement}
@@ -35,10 +35,11 @@ returns-4 c = search (needs, missing-no-room)
 
 put-missing-requires : tie.Need-put-missing-requires
 put-missing-requires c κs =
+    let pre = c .before .before .before .before .before .before .before .before .before .before .before .before .before .before .before .before .before .before .before .before .before .before .before .before .pre in
     let asked = c .before .before .before .before .before .before .before .before .before .before .before .before .before .before .before .before .ask-sheet .ensures in
     let form = c .before .before .before .before .before .before .before .before .before .before .before .before .before .before .ask-form .ensures in
     let start = c .before .before .before .before .before .before .before .before .before .find-start .ensures in
-    (search needs, missing-roomy _ _ _ [] _ _ _ _ asked (search needs) _ form (search needs) _ start (search needs) (c .before .before .before .before .before .before .before .before .before .before .before .before .before .before .before .before .before .before .before .before .before .before .before .before .pre .0) _ (still-room _ _ _ (c .before .before .before .before .before .before .before .before .before .before .before .before .before .before .before .before .before .before .before .before .before .before .before .before .pre .1) (search needs)), sequence-long _ _ [] [] _ _ form (search needs), missing-low _ _ _ [] _ _ _ _ asked (search needs) _ form (search needs), some-missing _ _ _ [] _ _ _ _ asked (search needs) _ form (search needs) _ start (search needs))
+    (search needs, missing-roomy _ _ _ [] _ _ _ _ asked (search needs) _ form (search needs) _ start (search needs) (pre .0) _ (still-room _ _ _ (pre .1) (search needs)), sequence-position _ _ [] [] _ _ form (search needs) (pre .0), missing-low _ _ _ [] _ _ _ _ asked (search needs) _ form (search needs), some-missing _ _ _ [] _ _ _ _ asked (search needs) _ form (search needs) _ start (search needs))
 
 same-length-3 : tie.Need-same-length-3
 same-length-3 c = search needs

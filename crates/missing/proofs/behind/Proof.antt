@@ -4,6 +4,7 @@ use borrow.Author.Needs.{needs}
 use lib.ListN.{length}
 use Rattle.missing.proofs.behind.Statement.{statement}
 use Rattle.missing.proofs.Extending.{Passing, passing-start, passing-turn, passing-found, passing-end}
+use Rattle.missing.proofs.Positions.{position-low}
 use Rattle.missing.proofs.behind.Tie as tie
 
 abbrev Inv-loop : tie.InvT-loop
@@ -15,11 +16,20 @@ abbrev μ-loop : tie.MeasureT-loop
 loop-holds : tie.Need-loop-holds Inv-loop μ-loop
 loop-holds c = search (needs, passing-start)
 
-byte-at-requires : tie.Need-byte-at-requires Inv-loop μ-loop
-byte-at-requires c κs = search needs
+cast-loop : tie.Need-cast-loop Inv-loop μ-loop
+cast-loop c = search (needs, position-low)
+
+cast-wide : tie.Need-cast-wide Inv-loop μ-loop
+cast-wide c = search (needs, position-low)
+
+shared-slice-read-wide : tie.Need-shared-slice-read-wide Inv-loop μ-loop
+shared-slice-read-wide c = search needs
+
+wide-requires : tie.Need-wide-requires Inv-loop μ-loop
+wide-requires c κs = search needs
 
 add-i : tie.Need-add-i Inv-loop μ-loop
-add-i c = search needs
+add-i c = search (needs, position-low)
 
 returns : tie.Need-returns Inv-loop μ-loop
 returns c = search (needs, passing-found)
@@ -40,7 +50,10 @@ behind-spec =
     Inv-loop
     μ-loop
     loop-holds
-    byte-at-requires
+    cast-loop
+    cast-wide
+    shared-slice-read-wide
+    wide-requires
     add-i
     returns
     loop-less

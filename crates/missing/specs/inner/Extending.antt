@@ -30,17 +30,21 @@ pub record FirstMissing (P : Program) (s : List ℕ) (X : ℕ → Type 0) (a m :
   pub lacking : Sublistᴰ (a ∷ w) s → ⊥
   pub first : (v : List ℕ) → Within P X a m v → (Sublistᴰ (a ∷ v) s → ⊥) → precedes (a ∷ v) (a ∷ w) ≡ false
 
+-- A position in a sequence of at most 640 entries: behind its first three bytes, and at its end at most.
+pub record Position (q : List ℕ) (i : ℕ) : Type 0 where
+  pub start : 3 ≤ i
+  pub inside : i ≤ length q
+  pub short : length q ≤ 643
+
 -- r is the position in q behind the first a from a position on, or the end.
 pub record Behind (q : List ℕ) (from a r : ℕ) : Type 0 where
-  pub later : from ≤ r
-  pub inside : r ≤ length q
+  pub position : Position q r
   pub onward : (v : List ℕ) → Sublistᴰ (a ∷ v) (drop from q) → Sublistᴰ v (drop r q)
   pub back : (v : List ℕ) → List·Memᴰ a (drop from q) → Sublistᴰ v (drop r q) → Sublistᴰ (a ∷ v) (drop from q)
 
 -- An extension's numbers are in their bounds, and its place is one of the unused ones.
 pub record Fits (k : ℕ) (q : List ℕ) (L : Extension) : Type 0 where
-  pub start : 3 ≤ L .from
-  pub inside : L .from ≤ length q
+  pub position : Position q (L .from)
   pub small : L .unused < 2 ^ k
   pub low : L .place < k
   pub own : has (L .unused) (L .place) ≡ true

@@ -6,6 +6,7 @@ mod count;
 mod hub;
 mod lparse;
 mod missing;
+mod positions;
 mod program;
 mod sequences;
 mod sheets;
@@ -24,4 +25,5 @@ fn main() {
     lparse::cases().write(folder, "lparse.txt");
     missing::cases().write(folder, "missing.txt");
     hub::cases().write(folder, "hub.txt");
+    positions::cases().write(folder, "positions.txt");
 }
