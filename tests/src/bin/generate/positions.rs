@@ -1,5 +1,4 @@
-//! Cases of positions in long sequences: chains that only the last entry completes, and atoms whose positions have low bytes of zero
-//! and about.
+//! Cases of positions in long sequences: chains that only the last entry completes, and entries around the positions 256 and 512.
 
 use crate::cases::Cases;
 use rulesheet_tests::inputs::{upto, Shape};
