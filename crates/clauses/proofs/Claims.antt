@@ -18,7 +18,7 @@ use Rattle.dimacs.specs.Text.{sheetOf, sequenceOf}
 use Rattle.dimacs.specs.Decoded.{readDimacs}
 use Rattle.dimacs.proofs.Decoding.{text-is-read}
 use Rattle.core.specs.Questions.{testQuestions}
-use Rattle.core.proofs.Testing.{test-accepted, test-faithful}
+use Rattle.demands.proofs.Accepting.{test-accepted, test-faithful}
 use Rattle.office.specs.Office.{office}
 use Rattle.clauses.specs.Printed.{refusal, clausesText, printed}
 use Rattle.clauses.specs.Claims.{PrintedIsFaithful}

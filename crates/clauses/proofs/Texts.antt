@@ -33,7 +33,7 @@ use Rattle.core.specs.Questions.{testQuestions, clausesQuestions, question10}
 use Rattle.core.specs.Promises.{clausesOutcome, ClausesPromise}
 use Rattle.core.specs.declared.ClausesAnswer.{ClausesAnswer}
 use Rattle.core.specs.declared.ClausesAnswer.the-variants as clauses
-use Rattle.core.proofs.Testing.{test-accepted}
+use Rattle.demands.proofs.Accepting.{test-accepted}
 use Rattle.core.proofs.Outcomes.{emitted-refusal, emitted-passed, emitted-values, emitted-output}
 use Rattle.office.specs.Office.{office}
 use Rattle.clauses.specs.Printed.{refusal, clausesText, printed, Prints}

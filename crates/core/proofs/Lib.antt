@@ -1,6 +1,5 @@
 pub mod Chains
 pub mod Outcomes
-pub mod Calls
 pub mod Asking
 pub mod Exporting
 pub mod Finding
@@ -10,6 +9,3 @@ pub mod Reading
 pub mod Writing
 pub mod Testing
 pub mod Unfolding
-pub mod Demands
-pub mod Services
-pub mod Claims

@@ -105,7 +105,7 @@ module _ (L : Limits) (s es cs ss : List ℕ) (r : Asked) (A : SheetAsked L s es
       ∙ ap (λ n. flatMap (block (program s)) (range 0 n)) a
 
   short : length (defaultSequence (program s)) ≤ L .component * r .atoms
-  short = subst (λ n. length (defaultSequence (program s)) ≤ L .component * n) (sym (K .atoms)) (default-length L s accepted (L .component) (K .limit))
+  short = subst (λ n. length (defaultSequence (program s)) ≤ L .component * n) (sym (K .atoms)) (default-length s (L .component) (K .limit))
 
   module _ (S : Supported L) (t : ℕ) (e : t ≡ length (blocksOf ss (r .atoms))) where
     entries-few : t ≤ 640

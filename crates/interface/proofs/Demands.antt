@@ -9,16 +9,16 @@ use Rattle.sheet.specs.declared.Limits.{Limits}
 use Rattle.core.specs.Outcome.{Outcome, outcome}
 use Rattle.core.specs.Outputs.{clauseNumbers, bodyStart, bodyEnd, bodyPositives}
 use Rattle.core.specs.Promises.{readOutcome, bodyOutcome, componentsOutcome, defaultOutcome, lparseOutcome, testOutcome, missingOutcome, unfoldedOutcome, clausesOutcome, countOutcome}
-use Rattle.core.specs.Calls.{Call, Buffer, values}
-use Rattle.core.specs.Calls as call
-use Rattle.core.specs.Demands.{Demand1, Demand2, Demand3, TextForSolvers, MissingChains}
-use Rattle.core.specs.Services.{OneFormat, Narrower}
-use Rattle.core.specs.Claims.{Shorter}
-use Rattle.core.proofs.Calls.{Follows, follows-decided, read-follows, count-follows, body-follows, test-follows}
-use Rattle.core.proofs.Calls.{components-follows, default-follows, lparse-follows, missing-follows, unfolded-follows, clauses-follows}
-use Rattle.core.proofs.Demands.{demand-2-of, demand-3-of, solvers-of, missing-chains-of}
-use Rattle.core.proofs.Services.{body-agree}
-use Rattle.core.proofs.Claims.{outputs-shorten}
+use Rattle.demands.specs.Calls.{Call, Buffer, values}
+use Rattle.demands.specs.Calls as call
+use Rattle.demands.specs.Demands.{Demand1, Demand2, Demand3, TextForSolvers, MissingChains}
+use Rattle.demands.specs.Services.{OneFormat, Narrower}
+use Rattle.demands.specs.Claims.{Shorter}
+use Rattle.demands.proofs.Calls.{Follows, follows-decided, read-follows, count-follows, body-follows, test-follows}
+use Rattle.demands.proofs.Calls.{components-follows, default-follows, lparse-follows, missing-follows, unfolded-follows, clauses-follows}
+use Rattle.demands.proofs.Demands.{demand-2-of, demand-3-of, solvers-of, missing-chains-of}
+use Rattle.demands.proofs.Services.{body-agree}
+use Rattle.demands.proofs.Claims.{outputs-shorten}
 use Rattle.interface.specs.Exported.{status, stored, Stores, shownOutcome}
 use Rattle.interface.specs.Seen.{Returned, told, Seen, NumbersKept, SameShown}
 

@@ -10,8 +10,8 @@ use Rattle.core.specs.Outcome.{Outcome, outcome, fromRead, fromWrite, fromTest,
 use Rattle.core.specs.Questions.{bodyQuestions}
 use Rattle.core.specs.Promises.{ReadPromise, bodyPlace, FindPromise, ComponentsPromise, DefaultPromise, LparsePromise}
 use Rattle.core.specs.Promises.{TestPromise, MissingPromise, UnfoldedPromise, ClausesPromise, CountPromise}
-use Rattle.core.specs.Calls.{nothing, unsigned, signed}
-use Rattle.core.specs.Calls as call
+use Rattle.demands.specs.Calls.{nothing, unsigned, signed}
+use Rattle.demands.specs.Calls as call
 use Rattle.core.specs.declared.BodyPlace.{BodyPlace}
 use Rattle.core.specs.declared.ClausesAnswer.{ClausesAnswer}
 use Rattle.core.specs.declared.CountAnswer.{CountAnswer}

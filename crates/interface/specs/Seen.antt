@@ -1,4 +1,4 @@
--- What C sees of a call, as a service: the demands are stated of it as of the operations (`core/specs/Demands.antt`).
+-- What C sees of a call, as a service: the demands are stated of it as of the operations (`demands/specs/Demands.antt`).
 use mathlib.Core.List.{List}
 use mathlib.Core.Path.{_≡_}
 use Prim.Native.Nat.{ℕ}
@@ -9,8 +9,8 @@ use Rattle.core.specs.Outcome.{Outcome, outcome}
 use Rattle.core.specs.Outputs.{componentsOutput, defaultOutput, lparseOutput, missingOutput, unfoldedOutput, clausesOutput}
 use Rattle.core.specs.Questions.{bodyQuestions}
 use Rattle.core.specs.Promises.{readOutcome, componentsOutcome, defaultOutcome, lparseOutcome, testOutcome, missingOutcome, unfoldedOutcome, clausesOutcome, countOutcome}
-use Rattle.core.specs.Calls.{Call, Buffer, nothing, unsigned, signed, values, Service}
-use Rattle.core.specs.Calls as call
+use Rattle.demands.specs.Calls.{Call, Buffer, nothing, unsigned, signed, values, Service}
+use Rattle.demands.specs.Calls as call
 use Rattle.interface.specs.Exported.{Stores, Writes, shownOutcome}
 
 -- The promise of a call's function: of the number returned, the lent numbers before and after, and the buffer afterwards.

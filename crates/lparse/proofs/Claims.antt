@@ -8,7 +8,7 @@ use Rattle.lists.proofs.Bools.{by-bool}
 use Rattle.sheet.specs.Questions.{ask, _then_}
 use Rattle.core.specs.Outputs.{lparseOutput}
 use Rattle.core.specs.Questions.{readQuestions}
-use Rattle.core.proofs.Demands.{solver-reads}
+use Rattle.demands.proofs.Demands.{solver-reads}
 use Rattle.office.specs.Office.{office}
 use Rattle.office.proofs.Laws.{office-lparse-fits}
 use Rattle.lparse.specs.Printed.{refusal, printed}

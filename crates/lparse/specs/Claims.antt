@@ -4,7 +4,7 @@ use mathlib.Core.Path.{_≡_}
 use Prim.Native.Nat.{ℕ}
 use Rattle.lparse_format.specs.Decoded.{readLparse}
 use Rattle.core.specs.Questions.{readQuestions}
-use Rattle.core.specs.Demands.{SolverReads}
+use Rattle.demands.specs.Demands.{SolverReads}
 use Rattle.office.specs.Office.{office}
 use Rattle.lparse.specs.Printed.{refusal, printed}
 

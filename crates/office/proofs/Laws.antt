@@ -8,15 +8,15 @@ use Rattle.sheet.specs.declared.Limits.{Limits}
 use Rattle.core.specs.inner.Asked.{Supported}
 use Rattle.core.specs.Outputs.{lparseOutput, missingOutput}
 use Rattle.core.specs.Questions.{readQuestions}
-use Rattle.core.specs.Calls.{Promised}
-use Rattle.core.specs.Demands.{Demand1, Demand2, Demand3, TextForSolvers, MissingChains, DefaultAccepted}
-use Rattle.core.specs.Services.{WholeFormat, NeverTooLarge}
-use Rattle.core.specs.Claims.{Shorter}
-use Rattle.core.proofs.Calls.{demand-1}
-use Rattle.core.proofs.Default.{default-accepted}
-use Rattle.core.proofs.Demands.{demand-2, demand-3, text-for-solvers, missing-chains}
-use Rattle.core.proofs.Services.{never-too-large}
-use Rattle.core.proofs.Claims.{outputs-shorten, lparse-fits, missing-fits}
+use Rattle.demands.specs.Calls.{Promised}
+use Rattle.demands.specs.Demands.{Demand1, Demand2, Demand3, TextForSolvers, MissingChains, DefaultAccepted}
+use Rattle.demands.specs.Services.{WholeFormat, NeverTooLarge}
+use Rattle.demands.specs.Claims.{Shorter}
+use Rattle.demands.proofs.Calls.{demand-1}
+use Rattle.demands.proofs.Default.{default-accepted}
+use Rattle.demands.proofs.Demands.{demand-2, demand-3, text-for-solvers, missing-chains}
+use Rattle.demands.proofs.Services.{never-too-large}
+use Rattle.demands.proofs.Claims.{outputs-shorten, lparse-fits, missing-fits}
 use Rattle.office.specs.Office.{office}
 
 pub supported : (L : Limits) → L ≡ office → Supported L

@@ -1,10 +1,10 @@
 -- The three demands of what C sees of the hub.
-use Rattle.core.specs.Demands.{Demand1, Demand2, Demand3, TextForSolvers, MissingChains}
-use Rattle.core.specs.Claims.{Shorter}
+use Rattle.demands.specs.Demands.{Demand1, Demand2, Demand3, TextForSolvers, MissingChains}
+use Rattle.demands.specs.Claims.{Shorter}
 use Rattle.interface.specs.Seen.{Seen, NumbersKept, SameShown}
 use Rattle.interface.proofs.Demands as interface
-use Rattle.core.specs.Services.{SameAnswers}
-use Rattle.core.proofs.Services.{one-service}
+use Rattle.demands.specs.Services.{SameAnswers}
+use Rattle.demands.proofs.Services.{one-service}
 use Rattle.office.specs.Office.{office}
 use Rattle.hub.specs.Hub.{hub}
 use Rattle.hub.proofs.Laws.{hub-format, hub-narrower}

@@ -7,8 +7,8 @@ use interface::store_length;
 use interface::store_read;
 use interface::store_test;
 ghost use mathlib.Core.List.{_∷_, []};
-ghost use Rattle.core.specs.Calls.{nothing, unsigned, signed};
-ghost use Rattle.core.specs.Calls as call;
+ghost use Rattle.demands.specs.Calls.{nothing, unsigned, signed};
+ghost use Rattle.demands.specs.Calls as call;
 ghost use Rattle.hub.specs.Hub.{hub};
 ghost use Rattle.interface.specs.Seen.{Returned};
 

@@ -1,10 +1,10 @@
 -- The three demands of what C sees of the office.
-use Rattle.core.specs.Demands.{Demand1, Demand2, Demand3, TextForSolvers, MissingChains}
-use Rattle.core.specs.Claims.{Shorter}
+use Rattle.demands.specs.Demands.{Demand1, Demand2, Demand3, TextForSolvers, MissingChains}
+use Rattle.demands.specs.Claims.{Shorter}
 use Rattle.interface.specs.Seen.{Seen, NumbersKept}
 use Rattle.interface.proofs.Demands as interface
-use Rattle.core.specs.Services.{NeverTooLarge}
-use Rattle.core.proofs.Services.{never-too-large}
+use Rattle.demands.specs.Services.{NeverTooLarge}
+use Rattle.demands.proofs.Services.{never-too-large}
 use Rattle.office.specs.Office.{office}
 use Rattle.office.proofs.Laws.{office-whole}
 

@@ -3,13 +3,13 @@ use mathlib.Core.List.{List, [], _∷_}
 use mathlib.Core.Path.{_≡_}
 use Prim.Native.Nat.{ℕ, _≤_}
 use Rattle.sheet.specs.declared.Limits.{Limits}
 use Rattle.core.specs.Outcome.{Outcome, refused}
 use Rattle.core.specs.Questions.{question15, question16, bodyQuestions}
 use Rattle.core.specs.Promises.{SlicePromise, FindPromise}
 use Rattle.core.specs.declared.BodyPlace.{BodyPlace}
-use Rattle.core.specs.Calls.{Call, Buffer, AllYes, Service}
-use Rattle.core.specs.Calls as call
-use Rattle.core.specs.Demands.{Demand1}
+use Rattle.demands.specs.Calls.{Call, Buffer, AllYes, Service}
+use Rattle.demands.specs.Calls as call
+use Rattle.demands.specs.Demands.{Demand1}
 
 -- The limits of the format are the same.
 pub record OneFormat (L M : Limits) : Type 0 where

@@ -23,10 +23,10 @@ use Rattle.choice.specs.Written.{ProjectedAnswerSet, WrittenFaithful}
 use Rattle.lparse_format.specs.Program.{LparseProgram, lparseProgram}
 use Rattle.lparse_format.specs.Decoded.{readLparse}
 use Rattle.lparse_format.specs.Meaning.{SameModels}
 use Rattle.core.specs.Outcome.{Outcome, refused, answered, code}
 use Rattle.core.specs.Outputs.{defaultOutput}
-use Rattle.core.specs.Calls.{Call, Buffer, unsigned, signed, lent, sheetAsked, sequenceAsked, questions, AllYes, FirstNo, values, written, Service}
-use Rattle.core.specs.Calls as call
+use Rattle.demands.specs.Calls.{Call, Buffer, unsigned, signed, lent, sheetAsked, sequenceAsked, questions, AllYes, FirstNo, values, written, Service}
+use Rattle.demands.specs.Calls as call
 
 -- The first no refuses, by its number alone, and what is lent stays as it was; without a no the values are answered and the output is written.
 pub data Decided (L : Limits) (c : Call) (o : Outcome) (b : Buffer) : Type 0 where

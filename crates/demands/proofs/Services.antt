@@ -22,17 +22,18 @@ use Rattle.sheet.proofs.Sequences.{fits-out}
 use Rattle.sheet.proofs.Walk.{ask-passed, then-passed}
 use Rattle.sheet.proofs.Records.{then-zero, then-refused}
 use Rattle.components.specs.Limit.{componentsFit}
 use Rattle.core.specs.Outcome.{Outcome, refused, outcome}
 use Rattle.core.specs.Outputs.{slice, bodyStart}
 use Rattle.core.specs.Questions.{question13, question7, question15, question8, question16, questionB, readQuestions, bodyQuestions}
 use Rattle.core.specs.Promises.{shifted, bodyAt, nowhere, bodyPlace}
-use Rattle.core.specs.Calls.{Call, Buffer, sheetAsked, sequenceAsked, questions, AllYes, values, Service}
-use Rattle.core.specs.Calls as call
-use Rattle.core.specs.Demands.{Decided, refuses, answers, Demand1}
-use Rattle.core.specs.Services.{OneFormat, Narrower, WholeFormat, serviceQuestions, OneService, SameBodies, NeverTooLarge}
-use Rattle.core.proofs.Chains.{read-asked, ask-other, then-other, form-other, read-other}
-use Rattle.core.proofs.Demands.{decided-number}
-use Rattle.core.proofs.Calls.{first, first-append, yes-first, no-first, sheet-first, left, Follows}
+use Rattle.core.proofs.Chains.{read-asked}
+use Rattle.demands.specs.Calls.{Call, Buffer, sheetAsked, sequenceAsked, questions, AllYes, values, Service}
+use Rattle.demands.specs.Calls as call
+use Rattle.demands.specs.Demands.{Decided, refuses, answers, Demand1}
+use Rattle.demands.specs.Services.{OneFormat, Narrower, WholeFormat, serviceQuestions, OneService, SameBodies, NeverTooLarge}
+use Rattle.demands.proofs.Numbers.{ask-other, then-other, form-other, read-other}
+use Rattle.demands.proofs.Demands.{decided-number}
+use Rattle.demands.proofs.Calls.{first, first-append, yes-first, no-first, sheet-first, left, Follows}
 
 -- A number other than 15 and 16.
 abbrev Neither : ℕ → Type 0

@@ -35,16 +35,17 @@ use Rattle.choice.proofs.Number.{cuts, cuts-listed, count-written}
 use Rattle.lparse_format.specs.Decoded.{readLparse}
 use Rattle.lparse_format.specs.Meaning.{SameModels}
 use Rattle.lparse_format.proofs.Claims.{lparse-is-read, export-is-faithful}
 use Rattle.core.specs.Outcome.{Outcome, refused, answered, code}
 use Rattle.core.specs.Outputs.{lparseOutput, missingOutput, unfoldedOutput, clausesOutput, clauseNumbers}
 use Rattle.core.specs.Questions.{question8, question16, question9, question10, readQuestions}
-use Rattle.core.specs.Calls.{Call, Buffer, unsigned, signed, over, sheetAsked, sequenceAsked, questions, AllYes, values, written, Service, Promised}
-use Rattle.core.specs.Calls as call
-use Rattle.core.specs.Demands.{Decided, refuses, answers, Demand1, AnswerSetsCounted, UnfoldedWords, ClauseWords, Demand2}
-use Rattle.core.specs.Demands.{Accepted, AsFarAsChains, Numbered, NineIsChains, Demand3, SolverReads, TextForSolvers, MissingChains}
-use Rattle.core.proofs.Calls.{first, first-append, first-yes, yes-first, no-first, sheet-first, test-first, demand-1}
-use Rattle.core.proofs.Chains.{read-passed, ask-other, then-behind, read-other}
-use Rattle.core.proofs.Testing.{program-accepted, both-accepted, test-faithful}
+use Rattle.core.proofs.Chains.{read-passed}
+use Rattle.demands.specs.Calls.{Call, Buffer, unsigned, signed, over, sheetAsked, sequenceAsked, questions, AllYes, values, written, Service, Promised}
+use Rattle.demands.specs.Calls as call
+use Rattle.demands.specs.Demands.{Decided, refuses, answers, Demand1, AnswerSetsCounted, UnfoldedWords, ClauseWords, Demand2}
+use Rattle.demands.specs.Demands.{Accepted, AsFarAsChains, Numbered, NineIsChains, Demand3, SolverReads, TextForSolvers, MissingChains}
+use Rattle.demands.proofs.Calls.{first, first-append, first-yes, yes-first, no-first, sheet-first, test-first, demand-1}
+use Rattle.demands.proofs.Numbers.{ask-other, then-behind, read-other}
+use Rattle.demands.proofs.Accepting.{program-accepted, both-accepted, test-faithful}
 
 -- A call that is answered: every question is answered by a yes, these are its values, and the buffer holds the output.
 pub record Succeeded (L : Limits) (c : Call) (vs : List ℕ) (b : Buffer) : Type 0 where

@@ -35,16 +35,16 @@ use Rattle.choice.proofs.Expanded.{without-choices}
 use Rattle.choice.proofs.Unique.{faithful-is-old}
 use Rattle.counting.specs.DecisionAtoms.{asksFor, decisionAtoms}
 use Rattle.lparse_format.proofs.Longest.{text-short}
 use Rattle.core.specs.Outcome.{answered}
 use Rattle.core.specs.Outputs.{lparseOutput, missingOutput, unfoldedOutput, clausesOutput, clauseNumbers}
 use Rattle.core.specs.Questions.{question3, question13}
-use Rattle.core.specs.Calls.{unsigned, signed, values, Service}
-use Rattle.core.specs.Calls as call
-use Rattle.core.specs.Demands.{Demand1}
-use Rattle.core.specs.Claims.{negatedAtoms, OldAnswersStay, OutputsShorten, LparseFits, MissingFits}
 use Rattle.core.proofs.Chains.{read-passed}
-use Rattle.core.proofs.Testing.{program-accepted}
-use Rattle.core.proofs.Demands.{succeeded, demand-2-of}
+use Rattle.demands.specs.Calls.{unsigned, signed, values, Service}
+use Rattle.demands.specs.Calls as call
+use Rattle.demands.specs.Demands.{Demand1}
+use Rattle.demands.specs.Claims.{negatedAtoms, OldAnswersStay, OutputsShorten, LparseFits, MissingFits}
+use Rattle.demands.proofs.Accepting.{program-accepted}
+use Rattle.demands.proofs.Demands.{succeeded, demand-2-of}
 
 -- What records ask for where none is a choice rule.
 asks-plain : (rs : List Record) (a : ℕ) → choices rs ≡ 0 → any (λ r. asksFor r a) rs ≡ any (λ r. eqb (r .kind) 0 && member a (r .body .neg)) rs

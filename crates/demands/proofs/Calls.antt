@@ -13,17 +13,17 @@ use Rattle.sheet.specs.Questions.{ask, _then_}
 use Rattle.sheet.specs.Format.{atomsByte, recordsByte, complete, kindPasses, listsFit, end, recordQuestions, recordsQuestions}
 use Rattle.sheet.specs.declared.Limits.{Limits}
 use Rattle.sheet.proofs.Records.{then-zero, then-refused}
 use Rattle.core.specs.Outcome.{Outcome, refused, answered, outcome, filled}
 use Rattle.core.specs.Outputs.{componentsOutput, defaultOutput, lparseOutput, missingOutput, unfoldedOutput, clausesOutput}
 use Rattle.core.specs.Questions.{question1, question2, question3, question13, question7, question15, question8, question16, question9, readQuestions, testQuestions}
 use Rattle.core.specs.Questions.{bodyQuestions, componentsQuestions, defaultQuestions, lparseQuestions, missingQuestions, unfoldedQuestions, clausesQuestions, countQuestions}
 use Rattle.core.specs.Promises.{readOutcome, ReadPromise, bodyOutcome, BodyPromise, componentsOutcome, ComponentsPromise, defaultOutcome, DefaultPromise, lparseOutcome, LparsePromise}
 use Rattle.core.specs.Promises.{testOutcome, TestPromise, missingOutcome, MissingPromise, unfoldedOutcome, UnfoldedPromise, clausesOutcome, ClausesPromise, countOutcome, CountPromise}
-use Rattle.core.specs.Calls.{Call, Buffer, nothing, unsigned, signed, over, lent, values, written, Promised}
-use Rattle.core.specs.Calls.{recordsAsked, sheetAsked, sequenceAsked, questions, AllYes, FirstNo}
-use Rattle.core.specs.Calls as call
-use Rattle.core.specs.Demands.{Decided, refuses, answers, Demand1}
 use Rattle.core.proofs.Chains.{then-assoc, test-asked}
+use Rattle.demands.specs.Calls.{Call, Buffer, nothing, unsigned, signed, over, lent, values, written, Promised}
+use Rattle.demands.specs.Calls.{recordsAsked, sheetAsked, sequenceAsked, questions, AllYes, FirstNo}
+use Rattle.demands.specs.Calls as call
+use Rattle.demands.specs.Demands.{Decided, refuses, answers, Demand1}
 
 -- The first of the questions that is answered by a no, 0 where none is.
 unfoldable pub first : List ℕ → ℕ

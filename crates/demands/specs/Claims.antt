@@ -19,12 +19,12 @@ use Rattle.sheet.specs.declared.Limits.{Limits}
 use Rattle.choice.specs.Written.{WrittenFaithful}
 use Rattle.choice.specs.Claims.{plainProgram}
 use Rattle.counting.specs.DecisionAtoms.{decisionAtoms}
 use Rattle.core.specs.Outcome.{answered}
 use Rattle.core.specs.Outputs.{lparseOutput, missingOutput}
 use Rattle.core.specs.Questions.{question3, question13, readQuestions}
-use Rattle.core.specs.Calls.{unsigned, signed, Service}
-use Rattle.core.specs.Calls as call
-use Rattle.core.specs.Demands.{Demand1}
+use Rattle.demands.specs.Calls.{unsigned, signed, Service}
+use Rattle.demands.specs.Calls as call
+use Rattle.demands.specs.Demands.{Demand1}
 
 -- The atoms that stand in the negative list of some rule.
 unfoldable pub negatedAtoms : Program → List ℕ

@@ -1,0 +1,71 @@
+-- What the default sequence writes is accepted by questions 8, 16 and 9.
+use mathlib.Core.Bool.{true}
+use mathlib.Core.List.{List}
+use mathlib.Core.Path.{_≡_, refl, sym, _∙_}
+use Prim.Native.Nat.{ℕ, _+_, _*_, _/_, _%_, _≤_, _<_}
+use native.Mathlib.Nat.{mul-le-mul-left}
+use native.Mathlib.Omega.{arith}
+use borrow.Author.Tests.{eq-eqb, le-leb}
+use lib.ListN.{length}
+use Rattle.lists.proofs.Bools.{and-intro}
+use Rattle.unfolding.specs.Chain.{passes}
+use Rattle.unfolding.specs.Default.{defaultSequence}
+use Rattle.unfolding.proofs.Chains.{passes-iff}
+use Rattle.unfolding.proofs.Default.{default-passes, default-below}
+use Rattle.sheet.specs.Questions.{ask}
+use Rattle.sheet.specs.Sheet.{program}
+use Rattle.sheet.specs.Sequence.{entriesField, entries, sequenceFits}
+use Rattle.sheet.specs.declared.Limits.{Limits}
+use Rattle.sheet.proofs.Records.{ask-yes, then-zero}
+use Rattle.choice.proofs.Sheets.{program-formed}
+use Rattle.core.specs.Outputs.{sequenceBytes, defaultOutput}
+use Rattle.core.specs.Questions.{question16, question9, readQuestions}
+use Rattle.core.proofs.Chains.{Passed, read-passed, test-asked}
+use Rattle.core.proofs.Default.{default-length}
+use Rattle.demands.specs.Calls.{sheetAsked, questions}
+use Rattle.demands.specs.Calls as call
+use Rattle.demands.specs.Demands.{DefaultAccepted}
+use Rattle.demands.proofs.Calls.{first-yes, yes-first, sheet-first, test-first}
+
+module _ (L : Limits) (s : List ℕ) (accepted : readQuestions L s ≡ 0) where
+  passed : Passed L s
+  passed = read-passed L s accepted
+
+  module _ (enough : L .taken .component * L .taken .atoms ≤ L .taken .entries) (within : L .taken .entries ≤ L .entries) (two-bytes : L .entries < 65536) where
+    few : length (defaultSequence (program s)) ≤ L .taken .entries
+    few =
+        let a = default-length s (L .taken .component) (passed .taken-components) in
+        let b = mul-le-mul-left (L .taken .component) (passed .taken-atoms) in
+        omega arith
+
+    eighth : sequenceFits L (program s .atoms) (defaultOutput s) ≡ true
+    unfolding sequenceFits defaultOutput sequenceBytes
+    eighth =
+        let t = length (defaultSequence (program s)) in
+        let k = few in
+        let field : (t / 256 % 256) * 256 + t % 256 ≡ t = omega arith in
+        let q = defaultOutput s in
+        and-intro
+        (and-intro (and-intro (and-intro (le-leb 3 (length q) (omega arith)) refl) (le-leb (entriesField q) (L .entries) (omega arith)))
+        (eq-eqb (length q) (3 + entriesField q) (omega arith)))
+        (default-below (program s))
+
+    sixteenth : question16 L (defaultOutput s) ≡ 0
+    unfolding ask defaultOutput sequenceBytes
+    sixteenth = rw (le-leb (length (defaultSequence (program s))) (L .taken .entries) few) refl
+
+    ninth : passes (program s) (entries (defaultOutput s)) ≡ true
+    unfolding defaultOutput sequenceBytes
+    ninth = passes-iff (program s) (program-formed L s (passed .form)) (defaultSequence (program s)) .1 (default-passes (program s) (program-formed L s (passed .form)))
+
+pub default-accepted : (L : Limits) → L .taken .component * L .taken .atoms ≤ L .taken .entries → L .taken .entries ≤ L .entries → L .entries < 65536 → DefaultAccepted L
+unfolding ask
+default-accepted L enough within two-bytes s yeses =
+    let accepted = sym (sheet-first L s) ∙ yes-first (sheetAsked L s) yeses in
+    first-yes (questions L (call.test s (defaultOutput s)))
+    (test-first L s (defaultOutput s)
+    ∙ (test-asked L s (defaultOutput s)
+    ∙ (then-zero (readQuestions L s) _ accepted
+    ∙ (ask-yes (eighth L s accepted enough within two-bytes) 8 _
+    ∙ (then-zero (question16 L (defaultOutput s)) (question9 s (defaultOutput s)) (sixteenth L s accepted enough within two-bytes)
+    ∙ rw (ninth L s accepted enough within two-bytes) refl)))))
