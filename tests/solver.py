@@ -52,9 +52,9 @@ def models(dimacs):
             model = []
 
 
-def cuts(dimacs, atoms):
+def cuts(models, atoms):
     """The models cut to the written atoms, each as the rising list of those that are true."""
-    return [[variable - 1 for variable in model if variable <= atoms] for model in models(dimacs)]
+    return [[variable - 1 for variable in model if variable <= atoms] for model in models]
 
 
 def run(command, data, status=(0,)):

@@ -275,6 +275,38 @@ pub fn hub_sheet(random: &mut Random) -> Sheet {
     sheet
 }
 
+/// A sheet of at most ten atoms in all, with components of at most so many.
+pub fn small_sheet(random: &mut Random, component: usize) -> Sheet {
+    let size = random.between(component / 2, component);
+    loop {
+        let sheet = with_ways_in(random, size);
+        if sheet.all_atoms() <= 10 {
+            return sheet;
+        }
+    }
+}
+
+/// A sheet with components of at most so many atoms, and with facts and choice rules that lead into them.
+fn with_ways_in(random: &mut Random, size: usize) -> Sheet {
+    let shape = *random.pick(&Shape::ALL);
+    let mut sheet = match random.below(4) {
+        0 => connected(random, shape, size),
+        1..=2 => barely_entered(random, shape, size),
+        _ => Style { atoms: 8, records: 14, component: size, negated: 6, body: 2 }.sheet(random),
+    };
+    for head in random.some_of(&upto(sheet.atoms), 2) {
+        let way_in = if random.one_in(3) { rule(head, &[], &[]) } else { choice(head, &[], &[]) };
+        sheet.records.push(way_in);
+    }
+    if random.one_in(3) {
+        add_pairs(random, &mut sheet);
+    }
+    if random.one_in(2) {
+        add_choices(random, &mut sheet);
+    }
+    sheet
+}
+
 /// Five or six components of four atoms, of which one may have five. With six the default sequence has 96 entries or a few more.
 fn side_by_side(random: &mut Random) -> Sheet {
     let number = random.between(5, 6);

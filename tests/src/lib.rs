@@ -5,6 +5,7 @@ pub mod inputs;
 #[cfg(feature = "library")]
 pub mod library;
 pub mod limits;
+pub mod models;
 pub mod random;
 pub mod reference;
 pub mod report;

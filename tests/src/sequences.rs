@@ -34,6 +34,25 @@ pub fn reordered(random: &mut Random, graph: &Graph) -> Vec<u8> {
     entries
 }
 
+/// A passing sequence with every component of k atoms k times over.
+fn whole(random: &mut Random, graph: &Graph) -> Vec<u8> {
+    match random.below(4) {
+        0..=1 => graph.default_sequence(),
+        2 => mixed(random, graph),
+        _ => reordered(random, graph),
+    }
+}
+
+/// A passing sequence, often one from which no entry can be left out.
+pub fn passing(random: &mut Random, graph: &Graph) -> Vec<u8> {
+    let entries = whole(random, graph);
+    if random.one_in(2) {
+        minimal(random, graph, &entries)
+    } else {
+        entries
+    }
+}
+
 /// A passing sequence from which no entry can be left out.
 pub fn minimal(random: &mut Random, graph: &Graph, entries: &[u8]) -> Vec<u8> {
     let mut order: Vec<usize> = (0..entries.len()).collect();
@@ -67,11 +86,11 @@ pub fn thinned(random: &mut Random, graph: &Graph) -> Vec<u8> {
     entries
 }
 
-/// Some entries inserted at random places.
-pub fn lengthened(random: &mut Random, graph: &Graph, entries: &[u8], number: usize) -> Vec<u8> {
+/// So many entries inserted at random places, fresh atoms among them, but no more than make the most entries in all.
+pub fn lengthened(random: &mut Random, graph: &Graph, entries: &[u8], number: usize, most: usize) -> Vec<u8> {
     let atoms: Vec<u8> = graph.atoms().collect();
     let mut longer = entries.to_vec();
-    for _ in 0..number.min(OFFICE.entries - entries.len()) {
+    for _ in 0..number.min(most - entries.len()) {
         if !atoms.is_empty() {
             longer.insert(random.between(0, longer.len()), *random.pick(&atoms));
         }
@@ -154,11 +173,7 @@ pub fn nearly_too_many(random: &mut Random, graph: &Graph) -> Vec<u8> {
 /// A sequence of any sort, as bytes.
 pub fn any_sequence(random: &mut Random, sheet: &Sheet) -> Vec<u8> {
     let graph = &Graph::new(sheet);
-    let mut entries = match random.below(4) {
-        0..=1 => graph.default_sequence(),
-        2 => mixed(random, graph),
-        _ => reordered(random, graph),
-    };
+    let mut entries = whole(random, graph);
     match random.below(12) {
         0..=2 => {}
         3 if entries.len() <= 30 => entries = minimal(random, graph, &entries),
@@ -177,7 +192,7 @@ pub fn any_sequence(random: &mut Random, sheet: &Sheet) -> Vec<u8> {
         }
         _ => {
             let number = random.between(1, 20);
-            entries = lengthened(random, graph, &entries, number);
+            entries = lengthened(random, graph, &entries, number, OFFICE.entries);
         }
     }
     sequence_bytes(&entries)

@@ -16,16 +16,15 @@ use Rattle.sheet.specs.Questions.{ask}
 use Rattle.sheet.specs.Sheet.{program}
 use Rattle.sheet.specs.Sequence.{entriesField, entries, sequenceFits}
 use Rattle.sheet.specs.declared.Limits.{Limits}
-use Rattle.sheet.proofs.Records.{ask-yes, then-zero}
 use Rattle.choice.proofs.Sheets.{program-formed}
 use Rattle.core.specs.Outputs.{sequenceBytes, defaultOutput}
-use Rattle.core.specs.Questions.{question16, question9, readQuestions}
-use Rattle.core.proofs.Chains.{Passed, read-passed, test-asked}
+use Rattle.core.specs.Questions.{question16, readQuestions}
+use Rattle.core.proofs.Chains.{Passed, read-passed}
 use Rattle.core.proofs.Default.{default-length}
-use Rattle.demands.specs.Calls.{sheetAsked, questions}
-use Rattle.demands.specs.Calls as call
+use Rattle.demands.specs.Calls.{sheetAsked}
 use Rattle.demands.specs.Demands.{DefaultAccepted}
-use Rattle.demands.proofs.Calls.{first-yes, yes-first, sheet-first, test-first}
+use Rattle.demands.proofs.Calls.{yes-first, sheet-first}
+use Rattle.demands.proofs.Demands.{test-yes}
 
 module _ (L : Limits) (s : List ℕ) (accepted : readQuestions L s ≡ 0) where
   passed : Passed L s
@@ -61,11 +60,7 @@ module _ (L : Limits) (s : List ℕ) (accepted : readQuestions L s ≡ 0) where
 pub default-accepted : (L : Limits) → L .taken .component * L .taken .atoms ≤ L .taken .entries → L .taken .entries ≤ L .entries → L .entries < 65536 → DefaultAccepted L
 unfolding ask
 default-accepted L enough within two-bytes s yeses =
-    let accepted = sym (sheet-first L s) ∙ yes-first (sheetAsked L s) yeses in
-    first-yes (questions L (call.test s (defaultOutput s)))
-    (test-first L s (defaultOutput s)
-    ∙ (test-asked L s (defaultOutput s)
-    ∙ (then-zero (readQuestions L s) _ accepted
-    ∙ (ask-yes (eighth L s accepted enough within two-bytes) 8 _
-    ∙ (then-zero (question16 L (defaultOutput s)) (question9 s (defaultOutput s)) (sixteenth L s accepted enough within two-bytes)
-    ∙ rw (ninth L s accepted enough within two-bytes) refl)))))
+    let sheet = yes-first (sheetAsked L s) yeses in
+    let accepted = sym (sheet-first L s) ∙ sheet in
+    test-yes L s (defaultOutput s) sheet (rw (eighth L s accepted enough within two-bytes) refl) (sixteenth L s accepted enough within two-bytes)
+    (rw (ninth L s accepted enough within two-bytes) refl)

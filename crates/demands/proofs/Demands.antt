@@ -73,7 +73,7 @@ decided-number L c b k (answers y e m) = let z : _≡_ {A = ℕ} 0 1 = cc e in a
 
 -- Questions about the sheet come first.
 module _ (L : Limits) (s more : List ℕ) (y : AllYes (sheetAsked L s ++ more)) where
-  parted : (first (sheetAsked L s) ≡ 0) × (first more ≡ 0)
+  pub parted : (first (sheetAsked L s) ≡ 0) × (first more ≡ 0)
   parted = then-passed (first (sheetAsked L s)) (first more) (sym (first-append (sheetAsked L s) more) ∙ yes-first (sheetAsked L s ++ more) y)
 
   read-accepted : readQuestions L s ≡ 0
@@ -97,18 +97,21 @@ module _ (L : Limits) (s q rest : List ℕ) (k : ℕ) (y : AllYes (sequenceAsked
   next-passed : k ≡ 0
   next-passed = then-passed k (first rest) (sixteenth .1) .0
 
--- Where that is the chain question, testing accepts: a well-formed program and a sequence of its atoms that has every chain.
+-- Testing accepts where each of its questions is answered by a yes.
+pub test-yes : (L : Limits) (s q : List ℕ) → first (sheetAsked L s) ≡ 0 → question8 L s q ≡ 0 → question16 L q ≡ 0 → question9 s q ≡ 0 → Accepted L s q
+unfolding first questions
+test-yes L s q sheet form size found =
+    first-yes (questions L (call.test s q))
+    (first-append (sheetAsked L s) (question8 L s q ∷ question16 L q ∷ question9 s q ∷ [])
+    ∙ (then-zero (first (sheetAsked L s)) _ sheet
+    ∙ (then-zero (question8 L s q) _ form ∙ (then-zero (question16 L q) _ size ∙ then-zero (question9 s q) 0 found))))
+
+-- Where the next is the chain question, testing accepts: a well-formed program and a sequence of its atoms that has every chain.
 module _ (L : Limits) (s q rest : List ℕ) (y : AllYes (sequenceAsked L s q (question9 s q ∷ rest))) where
   test-accepts : Accepted L s q
-  unfolding first questions
-  test-accepts =
-      first-yes (questions L (call.test s q))
-      (first-append (sheetAsked L s) (question8 L s q ∷ question16 L q ∷ question9 s q ∷ [])
-      ∙ (then-zero (first (sheetAsked L s)) _ (parted L s _ y .0)
-      ∙ (then-zero (question8 L s q) _ (eighth L s q rest _ y .0)
-      ∙ (then-zero (question16 L q) _ (sixteenth L s q rest _ y .0) ∙ then-zero (question9 s q) 0 (next-passed L s q rest _ y)))))
+  test-accepts = test-yes L s q (parted L s _ y .0) (eighth L s q rest _ y .0) (sixteenth L s q rest _ y .0) (next-passed L s q rest _ y)
 
-  accepted-both : claims.Accepted (program s) (entries q)
+  pub accepted-both : claims.Accepted (program s) (entries q)
   accepted-both = both-accepted L s q (sym (sheet-first L s) ∙ parted L s _ y .0) (eighth L s q rest _ y .0) (next-passed L s q rest _ y)
 
 -- Counting.
@@ -200,7 +203,7 @@ text-read L s old new l K =
     subst (λ t. SolverReads s (readLparse t)) (sym front) (solver-reads L s (read-accepted L s _ (K .yeses)))
 
 -- Over the written atoms.
-written-faithful : (L : Limits) (s q : List ℕ) → Accepted L s q → WrittenFaithful (atomsByte s) (program s) (entries q)
+pub written-faithful : (L : Limits) (s q : List ℕ) → Accepted L s q → WrittenFaithful (atomsByte s) (program s) (entries q)
 written-faithful L s q y = test-faithful L s q (sym (test-first L s q) ∙ yes-first (questions L (call.test s q)) y)
 
 -- A question behind question 16, in a call that comes so far and asks `rest` behind it.
@@ -265,6 +268,11 @@ module _ (L : Limits) (s q : List ℕ) where
 module _ (L : Limits) (S : Service) (D : Demand1 L S) where
   pub succeeded : (c : Call) (vs : List ℕ) (b : Buffer) → S c (answered vs) b → Succeeded L c vs b
   succeeded c vs b A = decided-answered L c vs b (D c (answered vs) b A)
+
+  -- Where testing accepts, whatever is answered to it is that it passed.
+  pub test-answered : (s q : List ℕ) (o : Outcome) (b : Buffer) → S (call.test s q) o b → Accepted L s q → o ≡ answered []
+  unfolding values
+  test-answered s q o b A y = decided-passed L (call.test s q) o b (D _ o b A) (yes-first (questions L (call.test s q)) y)
 
   pub demand-2-of : Demand2 L S
   demand-2-of =

@@ -1,4 +1,5 @@
 pub mod Calls
 pub mod Demands
 pub mod Services
+pub mod Lengthened
 pub mod Claims

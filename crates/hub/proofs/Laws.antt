@@ -11,11 +11,13 @@ use Rattle.core.specs.Questions.{readQuestions}
 use Rattle.demands.specs.Calls.{Promised}
 use Rattle.demands.specs.Demands.{Demand1, Demand2, Demand3, TextForSolvers, MissingChains, DefaultAccepted}
 use Rattle.demands.specs.Services.{OneFormat, Narrower, SameAnswers, SameBodies}
+use Rattle.demands.specs.Lengthened.{LengthenedSequences}
 use Rattle.demands.specs.Claims.{Shorter}
 use Rattle.demands.proofs.Calls.{demand-1}
 use Rattle.demands.proofs.Default.{default-accepted}
 use Rattle.demands.proofs.Demands.{demand-2, demand-3, text-for-solvers, missing-chains}
 use Rattle.demands.proofs.Services.{one-service, same-bodies}
+use Rattle.demands.proofs.Lengthened.{lengthened-sequences}
 use Rattle.demands.proofs.Claims.{outputs-shorten, missing-fits}
 use Rattle.office.specs.Office.{office}
 use Rattle.hub.specs.Hub.{hub}
@@ -48,6 +50,10 @@ hub-text-for-solvers = text-for-solvers hub
 -- What the hub's missing chains are.
 pub hub-missing-chains : MissingChains (Promised hub)
 hub-missing-chains = missing-chains hub
+
+-- What an author keeps who lengthens a sequence of the hub.
+pub hub-lengthened-sequences : LengthenedSequences hub (Promised hub)
+hub-lengthened-sequences = lengthened-sequences hub
 
 -- What the hub writes is shortened.
 pub hub-shorter : Shorter (Promised hub)

@@ -13,11 +13,13 @@ use Rattle.demands.specs.Calls.{Call, Buffer, values}
 use Rattle.demands.specs.Calls as call
 use Rattle.demands.specs.Demands.{Demand1, Demand2, Demand3, TextForSolvers, MissingChains}
 use Rattle.demands.specs.Services.{OneFormat, Narrower}
+use Rattle.demands.specs.Lengthened.{LengthenedSequences}
 use Rattle.demands.specs.Claims.{Shorter}
 use Rattle.demands.proofs.Calls.{Follows, follows-decided, read-follows, count-follows, body-follows, test-follows}
 use Rattle.demands.proofs.Calls.{components-follows, default-follows, lparse-follows, missing-follows, unfolded-follows, clauses-follows}
 use Rattle.demands.proofs.Demands.{demand-2-of, demand-3-of, solvers-of, missing-chains-of}
 use Rattle.demands.proofs.Services.{body-agree}
+use Rattle.demands.proofs.Lengthened.{lengthened-of}
 use Rattle.demands.proofs.Claims.{outputs-shorten}
 use Rattle.interface.specs.Exported.{status, stored, Stores, shownOutcome}
 use Rattle.interface.specs.Seen.{Returned, told, Seen, NumbersKept, SameShown}
@@ -73,6 +75,10 @@ seen-text-for-solvers L = solvers-of L (Seen L) (seen-demand-1 L)
 -- What the missing chains that C sees are.
 pub seen-missing-chains : (L : Limits) → MissingChains (Seen L)
 seen-missing-chains L = missing-chains-of L (Seen L) (seen-demand-1 L)
+
+-- What an author keeps who lengthens a sequence, as C sees it.
+pub seen-lengthened-sequences : (L : Limits) → LengthenedSequences L (Seen L)
+seen-lengthened-sequences L = lengthened-of L (Seen L) (seen-demand-1 L)
 
 -- What C sees written is shortened.
 pub seen-shorter : (L : Limits) → Shorter (Seen L)

@@ -11,11 +11,13 @@ use Rattle.core.specs.Questions.{readQuestions}
 use Rattle.demands.specs.Calls.{Promised}
 use Rattle.demands.specs.Demands.{Demand1, Demand2, Demand3, TextForSolvers, MissingChains, DefaultAccepted}
 use Rattle.demands.specs.Services.{WholeFormat, NeverTooLarge}
+use Rattle.demands.specs.Lengthened.{LengthenedSequences}
 use Rattle.demands.specs.Claims.{Shorter}
 use Rattle.demands.proofs.Calls.{demand-1}
 use Rattle.demands.proofs.Default.{default-accepted}
 use Rattle.demands.proofs.Demands.{demand-2, demand-3, text-for-solvers, missing-chains}
 use Rattle.demands.proofs.Services.{never-too-large}
+use Rattle.demands.proofs.Lengthened.{lengthened-sequences}
 use Rattle.demands.proofs.Claims.{outputs-shorten, lparse-fits, missing-fits}
 use Rattle.office.specs.Office.{office}
 
@@ -54,6 +56,10 @@ office-text-for-solvers = text-for-solvers office
 -- What the office's missing chains are.
 pub office-missing-chains : MissingChains (Promised office)
 office-missing-chains = missing-chains office
+
+-- What an author keeps who lengthens a sequence of the office.
+pub office-lengthened-sequences : LengthenedSequences office (Promised office)
+office-lengthened-sequences = lengthened-sequences office
 
 -- What the office writes is shortened.
 pub office-shorter : Shorter (Promised office)

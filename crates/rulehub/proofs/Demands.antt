@@ -1,5 +1,6 @@
 -- The three demands of what C sees of the hub.
 use Rattle.demands.specs.Demands.{Demand1, Demand2, Demand3, TextForSolvers, MissingChains}
+use Rattle.demands.specs.Lengthened.{LengthenedSequences}
 use Rattle.demands.specs.Claims.{Shorter}
 use Rattle.interface.specs.Seen.{Seen, NumbersKept, SameShown}
 use Rattle.interface.proofs.Demands as interface
@@ -26,6 +27,10 @@ seen-text-for-solvers = interface.seen-text-for-solvers hub
 -- What the missing chains that C sees are.
 pub seen-missing-chains : MissingChains (Seen hub)
 seen-missing-chains = interface.seen-missing-chains hub
+
+-- What an author keeps who lengthens a sequence, as C sees it.
+pub seen-lengthened-sequences : LengthenedSequences hub (Seen hub)
+seen-lengthened-sequences = interface.seen-lengthened-sequences hub
 
 -- What C sees written is shortened.
 pub seen-shorter : Shorter (Seen hub)

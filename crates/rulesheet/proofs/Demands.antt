@@ -1,5 +1,6 @@
 -- The three demands of what C sees of the office.
 use Rattle.demands.specs.Demands.{Demand1, Demand2, Demand3, TextForSolvers, MissingChains}
+use Rattle.demands.specs.Lengthened.{LengthenedSequences}
 use Rattle.demands.specs.Claims.{Shorter}
 use Rattle.interface.specs.Seen.{Seen, NumbersKept}
 use Rattle.interface.proofs.Demands as interface
@@ -25,6 +26,10 @@ seen-text-for-solvers = interface.seen-text-for-solvers office
 -- What the missing chains that C sees are.
 pub seen-missing-chains : MissingChains (Seen office)
 seen-missing-chains = interface.seen-missing-chains office
+
+-- What an author keeps who lengthens a sequence, as C sees it.
+pub seen-lengthened-sequences : LengthenedSequences office (Seen office)
+seen-lengthened-sequences = interface.seen-lengthened-sequences office
 
 -- What C sees written is shortened.
 pub seen-shorter : Shorter (Seen office)

@@ -1,15 +1,16 @@
 -- The proof of each claim.
-use Rattle.unfolding.specs.Claims.{ReachIsLeast, EveryAtomInOne, NamedBySmallest, ChainsAreListed, TestIsPasses, MissingIsThere, MissingIsShortest, ShortestIsOnly, DefaultPasses, UnfoldedHasNoLoop, WordsAreUnfolded, WordsHaveNoLoop, UnfoldedIsShortened, ReadsKeptCopies, ClausesAreFaithful, LiteralsAreNumbered, WordsAreClauses}
+use mathlib.Core.List.{Sublistᴰ·trans}
+use Rattle.unfolding.specs.Claims.{ReachIsLeast, EveryAtomInOne, NamedBySmallest, ChainsAreListed, TestIsPasses, MissingIsThere, MissingIsShortest, ShortestIsOnly, DefaultPasses, UnfoldedHasNoLoop, WordsAreUnfolded, WordsHaveNoLoop, AtomsAreEntries, UnfoldedIsShortened, ReadsKeptCopies, ClausesAreFaithful, LiteralsAreNumbered, WordsAreClauses, LengthenedPasses, CopiesGrow}
 use Rattle.unfolding.proofs.Reach.{reach-induction, reach-refl, reach-edge, same-refl, component-of, component-only, component-shared, component-smallest}
 use Rattle.unfolding.proofs.Chains.{chains-in, chains-out, passes-iff}
 use Rattle.unfolding.proofs.Missing.{missing-there, missing-shortest, shortest-only}
 use Rattle.unfolding.proofs.Default.{default-passes}
 use Rattle.unfolding.specs.Unfolded.{unfolded}
 use Rattle.unfolding.proofs.NoLoop.{no-positive-loop}
-use Rattle.unfolding.proofs.Decoding.{words-unfolded, words-no-loop}
+use Rattle.unfolding.proofs.Decoding.{words-unfolded, words-no-loop, nameless-named}
 use Rattle.unfolding.proofs.Shortened.{shortened}
 use Rattle.unfolding.proofs.Reading.{reads-kept}
-use Rattle.unfolding.proofs.Theorem.{faithful, literals-numbered, words-clauses}
+use Rattle.unfolding.proofs.Theorem.{model-grows, faithful, literals-numbered, words-clauses}
 
 pub reach-is-least : ReachIsLeast
 reach-is-least P w =
@@ -51,6 +52,9 @@ words-are-unfolded P s = words-unfolded (unfolded P s)
 pub words-have-no-loop : WordsHaveNoLoop
 words-have-no-loop P w s b = words-no-loop (unfolded P s) (no-positive-loop P w s b)
 
+pub atoms-are-entries : AtomsAreEntries
+atoms-are-entries = nameless-named
+
 pub unfolded-is-shortened : UnfoldedIsShortened
 unfolded-is-shortened = shortened
 
@@ -65,3 +69,9 @@ literals-are-numbered P s A = literals-numbered P (A .program) s (A .entries) (A
 
 pub words-are-clauses : WordsAreClauses
 words-are-clauses P s A = words-clauses P (A .program) s (A .entries) (A .found)
+
+pub lengthened-passes : LengthenedPasses
+lengthened-passes P s longer inserted passes w C = Sublistᴰ·trans (passes w C) inserted
+
+pub copies-grow : CopiesGrow
+copies-grow = model-grows

@@ -2,7 +2,7 @@
 -- A past is the list of entries so far, the latest first.
 use mathlib.Core.Bool.{Bool, true, false, cond, false≢true}
 use mathlib.Core.List.{List, [], _∷_}
-use mathlib.Core.Path.{_≡_, refl, sym, _∙_, subst}
+use mathlib.Core.Path.{_≡_, refl, sym, _∙_, ap, subst, fun-ext}
 use Prim.Native.Nat.{ℕ}
 use borrow.Author.Tests.{eqb-true, eqb-false, eq-eqb, ne-eqb}
 use lib.Dec.{eqb}
@@ -43,16 +43,51 @@ module _ (P : Program) (X : State) where
   unfolding reads
   reads-other L a b f = rw f refl
 
+  reads-mono : (L K : State) → Inside L K → (a : ℕ) → Inside (reads P X L a) (reads P X K a)
+  reads-mono L K i a b r =
+      by-bool (sameComponent P a b) (λ t. reads-same K a b t ∙ i b (sym (reads-same L a b t) ∙ r)) (λ f. reads-other K a b f ∙ (sym (reads-other L a b f) ∙ r))
+
+  -- A copy that reads more is true where one that reads less is.
+  pub copy-mono : (L K : State) → Inside L K → (a : ℕ) → copyValue P X L a ≡ true → copyValue P X K a ≡ true
+  unfolding copyValue
+  copy-mono L K i a e = next-mono P X (reads P X L a) (reads P X K a) (reads-mono L K i a) a e
+
+  -- A copy that reads the state itself is true only where a state that is closed under its reduct has the atom.
+  reads-self : (a : ℕ) → reads P X X a ≡ X
+  reads-self a = fun-ext (λ b. by-bool (sameComponent P a b) (reads-same X a b) (reads-other X a b))
+
+  closed-copy : Closed (next P X) X → (a : ℕ) → copyValue P X X a ≡ true → X a ≡ true
+  unfolding copyValue
+  closed-copy c a e = c a (subst (λ L. next P X L a ≡ true) (reads-self a) e)
+
   -- Sound: what the copies say lies in every state that is closed under its reduct.
   pub sound : Closed (next P X) X → (s : List ℕ) → Inside (current P X s) X
-  unfolding current copyValue
+  unfolding current
   sound c [] b e = absurd (false≢true e)
   sound c (a ∷ past) b e =
       by-bool (eqb a b)
-      (λ t. subst (λ x. X x ≡ true) (eqb-true a b t)
-      (c a (next-mono P X (reads P X (current P X past) a) X (inside (sound c past)) a (sym (current-here past a b (eqb-true a b t)) ∙ e))))
+      (λ t. let q = eqb-true a b t in
+      subst (λ x. X x ≡ true) q (closed-copy c a (copy-mono (current P X past) X (sound c past) a (sym (current-here past a b q) ∙ e))))
       (λ f. sound c past b (sym (current-other past a b (eqb-false a b f)) ∙ e))
-    where
-      inside : Inside (current P X past) X → Inside (reads P X (current P X past) a) X
-      inside i x r =
-          by-bool (sameComponent P a x) (λ t. i x (sym (reads-same (current P X past) a x t) ∙ r)) (λ f. sym (reads-other (current P X past) a x f) ∙ r)
+
+  -- One more copy of an atom whose latest copy is true would be true.
+  abbrev Repeats : List ℕ → Type 0
+  Repeats past = (b : ℕ) → current P X past b ≡ true → copyValue P X (current P X past) b ≡ true
+
+  grown : (past : List ℕ) → Repeats past → (a : ℕ) → Inside (current P X past) (current P X (a ∷ past))
+  grown past again a b e =
+      by-bool (eqb a b) (λ t. let q = eqb-true a b t in current-here past a b q ∙ again a (ap (current P X past) q ∙ e))
+      (λ f. current-other past a b (eqb-false a b f) ∙ e)
+
+  repeats : (past : List ℕ) → Repeats past
+  unfolding current
+  repeats [] b e = absurd (false≢true e)
+  repeats (a ∷ past) b e =
+      copy-mono (current P X past) (current P X (a ∷ past)) (grown past (repeats past) a) b
+      (by-bool (eqb a b)
+      (λ t. let q = eqb-true a b t in ap (copyValue P X (current P X past)) (sym q) ∙ (sym (current-here past a b q) ∙ e))
+      (λ f. repeats past b (sym (current-other past a b (eqb-false a b f)) ∙ e)))
+
+  -- Along a sequence the values only grow.
+  pub current-grows : (past : List ℕ) (a : ℕ) → Inside (current P X past) (current P X (a ∷ past))
+  current-grows past = grown past (repeats past)

@@ -1,5 +1,5 @@
 -- The words of an unfolded program, read back, give it back, but for its copies' atoms.
-use mathlib.Core.Bool.{_&&_}
+use mathlib.Core.Bool.{_&&_, cond}
 use mathlib.Core.List.{List, [], _∷_, _++_, map, flatMap, append-nil, append-assoc}
 use mathlib.Core.Path.{_≡_, refl, sym, _∙_, ap, ap₂, subst}
 use Prim.Native.Nat.{ℕ, suc}
@@ -8,9 +8,9 @@ use lib.ListN.{length, take, drop}
 use lib.Seq.{take-append-seam, drop-append-seam}
 use Rattle.lists.specs.Lists.{any, member}
 use Rattle.lists.proofs.Members.{any-map}
-use Rattle.asp.specs.Program.{Body}
-use Rattle.unfolding.specs.Unfolded.{Copy, Unfolded, bodyWords, copyWords, words, needs, Leads, step, onwards, NoPositiveLoop}
-use Rattle.unfolding.specs.Decoded.{readBody, afterBody, readBodies, afterBodies, readCopies, afterCopies, readConstraints, readUnfolded, nameless}
+use Rattle.asp.specs.Program.{Body, Program}
+use Rattle.unfolding.specs.Unfolded.{Copy, Unfolded, keptFor, variable, copiesFrom, unfolded, bodyWords, copyWords, words, needs, Leads, step, onwards, NoPositiveLoop}
+use Rattle.unfolding.specs.Decoded.{readBody, afterBody, readBodies, afterBodies, readCopies, afterCopies, readConstraints, readUnfolded, nameless, named}
 
 module _ (b : Body) (rest : List ℕ) where
   abbrev behind : List ℕ
@@ -98,3 +98,15 @@ module _ (U : Unfolded) where
 
   pub words-no-loop : NoPositiveLoop U → NoPositiveLoop (readUnfolded (words U))
   words-no-loop h = subst NoPositiveLoop (sym words-unfolded) (λ v l. h v (leads-back v v l))
+
+-- With the entries as atoms the copies are those of the unfolded program again.
+copies-named : (P : Program) (s : List ℕ) (e : ℕ) (past : List Copy) → named s (map plain (copiesFrom P e past s)) ≡ copiesFrom P e past s
+unfolding named copiesFrom plain
+copies-named P [] e past = refl
+copies-named P (a ∷ s) e past =
+    let c : Copy = record { atom = a; var = variable P e a (member a s); kept = keptFor P past a } in
+    ap (λ cs. c ∷ cs) (copies-named P s (cond (member a s) (suc e) e) (c ∷ past))
+
+pub nameless-named : (P : Program) (s : List ℕ) → named s (nameless (unfolded P s) .copies) ≡ unfolded P s .copies
+unfolding unfolded nameless plain
+nameless-named P s = copies-named P s 0 []

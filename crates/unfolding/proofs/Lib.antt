@@ -8,6 +8,7 @@ pub mod Exact
 pub mod Ancestors
 pub mod Grounded
 pub mod Copies
+pub mod Later
 pub mod Numbering
 pub mod Completion
 pub mod Bounds

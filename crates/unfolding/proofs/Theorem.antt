@@ -18,11 +18,13 @@ use Rattle.asp.proofs.Derived.{constraint-atoms}
 use Rattle.unfolding.specs.Chain.{Chain, Passes}
 use Rattle.unfolding.specs.Unfolded.{Copy, Unfolded, last, renamed, keptFor, variable, copiesFrom, unfolded}
 use Rattle.unfolding.specs.Clauses.{Literal, variableOf, Clause, variables, signedWords, readWords}
-use Rattle.unfolding.specs.Faithful.{Assignment, projection, clausesOf, variablesOf, Faithful}
+use Rattle.unfolding.specs.Faithful.{Assignment, isModel, projection, clausesOf, variablesOf, Faithful}
+use Rattle.unfolding.specs.Lengthened.{LaterCopiesTrue}
 use Rattle.unfolding.proofs.Chains.{chain-one}
 use Rattle.unfolding.proofs.Current.{current, current-other}
 use Rattle.unfolding.proofs.Grounded.{current-stable, stable-current}
 use Rattle.unfolding.proofs.Copies.{Follows, outside-last, solves-follows, follows-solves, agrees-none, last-value}
+use Rattle.unfolding.proofs.Later.{later-true}
 use Rattle.unfolding.proofs.Numbering.{Entries, copies-length, atoms-fit, variable-range, all-variables, assign, assign-follows}
 use Rattle.unfolding.proofs.Completion.{Models, models-in, models-out, extend, extend-agrees, extend-models, models-agree, bodies, Names, Agree}
 use Rattle.unfolding.proofs.Words.{BodyOn, on-clauses, read-words}
@@ -58,6 +60,20 @@ module _ (P : Program) (wf : wellFormed P ≡ true) where
       ap not (ap (λ (x : Bool). x && outside M (map last (b .neg))) (all-map M last (b .pos) ∙ all-cong (λ a. M (last a)) X (b .pos) (λ a k. h a (low a (inl k))))
       ∙ ap (λ (x : Bool). all X (b .pos) && x) (outside-last M X (b .neg) (λ a k. h a (low a (inr k))))))
 
+  projection-at : (M : Assignment) (b : ℕ) → b < P .atoms → M (last b) ≡ projection (P .atoms) M b
+  unfolding projection last
+  projection-at M b l = rw (lt-ltb b (P .atoms) l) refl
+
+  -- A model gives each copy the value that its cut says.
+  model-follows : (s : List ℕ) (M : Assignment) → Models M (unfolded P s) → Follows P (projection (P .atoms) M) M 0 [] s
+  unfolding unfolded
+  model-follows s M m = solves-follows P wf M (projection (P .atoms) M) (projection-at M) s 0 [] (agrees-none P wf M (projection (P .atoms) M) (projection-at M)) (m .solves)
+
+  -- So an atom's later copies are true where an earlier one is, whatever the sequence.
+  pub model-grows : (s : List ℕ) (M : Assignment) → isModel M (clausesOf P s) ≡ true → LaterCopiesTrue (unfolded P s .copies) M
+  unfolding clausesOf unfolded
+  model-grows s M e = later-true P (projection (P .atoms) M) M s 0 [] [] (model-follows s M (models-out M (unfolded P s) e))
+
   module _ (s : List ℕ) (atoms : below (P .atoms) s ≡ true) (passes : Passes P s) where
     low : Entries P s
     low = below-at (P .atoms) s atoms
@@ -80,29 +96,21 @@ module _ (P : Program) (wf : wellFormed P ≡ true) where
     fits : P .atoms ≤ length (copiesFrom P 0 [] s)
     fits = let l = atoms-fit P s low full in let q = copies-length P s 0 [] in omega arith
 
-    named : (b : Body) → List·Memᴰ b (bodies U) → Names (length (U .copies)) b
+    bodies-named : (b : Body) → List·Memᴰ b (bodies U) → Names (length (U .copies)) b
     unfolding U unfolded
-    named = bodies-name P wf (length (copiesFrom P 0 [] s)) fits s numbered
-
-    projection-at : (M : Assignment) (b : ℕ) → b < P .atoms → M (last b) ≡ projection (P .atoms) M b
-    unfolding projection last
-    projection-at M b l = rw (lt-ltb b (P .atoms) l) refl
+    bodies-named = bodies-name P wf (length (copiesFrom P 0 [] s)) fits s numbered
 
     projection-below : (M : Assignment) (b : ℕ) → projection (P .atoms) M b ≡ true → b < P .atoms
     unfolding projection
     projection-below M b e = ltb-true b (P .atoms) (and-left (ltb b (P .atoms)) (M (suc b)) e)
 
-    -- A model gives each copy the value that its cut says.
-    model-follows : (M : Assignment) → Models M U → Follows P (projection (P .atoms) M) M 0 [] s
-    unfolding U unfolded
-    model-follows M m = solves-follows P wf M (projection (P .atoms) M) (projection-at M) s 0 [] (agrees-none P wf M (projection (P .atoms) M) (projection-at M)) (m .solves)
-
     projection-current : (M : Assignment) → Models M U → (a : ℕ) → projection (P .atoms) M a ≡ current P (projection (P .atoms) M) (reverse s) a
+    unfolding U
     projection-current M m a =
         bool-ext (λ e. sym (here (projection-below M a e)) ∙ e) (λ e. here (low a (mem-reverse s (current-stands P (projection (P .atoms) M) (reverse s) a e))) ∙ e)
       where
         here : a < P .atoms → projection (P .atoms) M a ≡ current P (projection (P .atoms) M) (reverse s) a
-        here l = sym (projection-at M a l) ∙ last-value P (projection (P .atoms) M) M s 0 [] (model-follows M m) a (full a l)
+        here l = sym (projection-at M a l) ∙ last-value P (projection (P .atoms) M) M s 0 [] (model-follows s M m) a (full a l)
 
     model-stable : (M : Assignment) → Models M U → StableModel P (projection (P .atoms) M)
     unfolding U
@@ -131,7 +139,7 @@ module _ (P : Program) (wf : wellFormed P ≡ true) where
       lifted-models : Models lifted U
       unfolding lifted U unfolded
       lifted-models =
-          extend-models U named valuation numbered (constraints-name P wf (length (copiesFrom P 0 [] s)) fits s)
+          extend-models U bodies-named valuation numbered (constraints-name P wf (length (copiesFrom P 0 [] s)) fits s)
           (follows-solves P wf valuation X valuation-last s 0 [] (agrees-none P wf valuation X valuation-last) valuation-follows)
           (constraints-same valuation X valuation-last s ∙ S .obeys)
 
@@ -146,10 +154,10 @@ module _ (P : Program) (wf : wellFormed P ≡ true) where
     models-one : (M M′ : Assignment) → Models M U → Models M′ U → projection (P .atoms) M ≡ projection (P .atoms) M′ → Agree (variables U) M M′
     unfolding U unfolded
     models-one M M′ m m′ e =
-        models-agree U named M M′ m m′ (λ v l h.
+        models-agree U bodies-named M M′ m m′ (λ v l h.
         let c = all-variables P s low full v l (let q = copies-length P s 0 [] in omega arith) in
         subst (λ x. M x ≡ M′ x) (c .2)
-        (follows-agree P (projection (P .atoms) M) M M′ s 0 [] [] (model-follows M m) (subst (λ X. Follows P X M′ 0 [] s) (sym e) (model-follows M′ m′)) (c .0) (c .1)))
+        (follows-agree P (projection (P .atoms) M) M M′ s 0 [] [] (model-follows s M m) (subst (λ X. Follows P X M′ 0 [] s) (sym e) (model-follows s M′ m′)) (c .0) (c .1)))
 
     pub faithful : Faithful P s
     unfolding clausesOf variablesOf U
@@ -168,7 +176,7 @@ module _ (P : Program) (wf : wellFormed P ≡ true) where
         let wide : (v : ℕ) → (1 ≤ v) × (v ≤ t) → (1 ≤ v) × (v ≤ variables U) = λ v p. (p .0, let h = p .1 in omega arith) in
         let body : (b : Body) → Names t b → BodyOn (λ v. (1 ≤ v) × (v ≤ variables U)) b = λ b n v. ⊎-elim (λ m. wide v (n .pos v m)) (λ m. wide v (n .neg v m)) in
         on-clauses (λ v. (1 ≤ v) × (v ≤ variables U)) U (λ c m. wide (c .var) (numbered c m)) (λ v l h. (omega arith, h))
-        (λ b m. body b (named b m)) (λ b m. body b (constraints-name P wf t fits s b m))
+        (λ b m. body b (bodies-named b m)) (λ b m. body b (constraints-name P wf t fits s b m))
 
     -- The words written are the clauses.
     pub words-clauses : readWords (signedWords (clausesOf P s)) ≡ clausesOf P s

@@ -1,6 +1,6 @@
 -- What is proved of the definitions; `proofs/Claims.antt` has the proof of each.
 use mathlib.Core.Bool.{true, false}
-use mathlib.Core.List.{List, [], List·Memᴰ}
+use mathlib.Core.List.{List, [], List·Memᴰ, Sublistᴰ}
 use mathlib.Core.Logic.{_↔_, _≢_}
 use mathlib.Core.Path.{_≡_}
 use Prim.Native.Nat.{ℕ, _≤_, _<_}
@@ -12,10 +12,11 @@ use Rattle.unfolding.specs.Chain.{Chain, Passes, chains, passes}
 use Rattle.unfolding.specs.Missing.{missingChain, ShortestMissing}
 use Rattle.unfolding.specs.Default.{defaultSequence}
 use Rattle.unfolding.specs.Unfolded.{Copy, NoPositiveLoop, unfolded, words}
-use Rattle.unfolding.specs.Decoded.{readUnfolded, nameless}
+use Rattle.unfolding.specs.Decoded.{readUnfolded, nameless, named}
 use Rattle.unfolding.specs.Clauses.{Literal, Clause, variableOf, signedWords, readWords}
-use Rattle.unfolding.specs.Faithful.{clausesOf, variablesOf, Faithful}
+use Rattle.unfolding.specs.Faithful.{Assignment, isModel, clausesOf, variablesOf, Faithful}
 use Rattle.unfolding.specs.Shortened.{Shortened}
+use Rattle.unfolding.specs.Lengthened.{LaterCopiesTrue}
 
 -- The relation is reflexive and closed under edges, for every start a among the atoms.
 pub record AlongEdges (P : Program) (R : ℕ → ℕ → Type 0) : Type 0 where
@@ -72,12 +73,15 @@ DefaultPasses = (P : Program) → wellFormed P ≡ true → Passes P (defaultSeq
 abbrev pub UnfoldedHasNoLoop : Type 0
 UnfoldedHasNoLoop = (P : Program) → wellFormed P ≡ true → (s : List ℕ) → below (P .atoms) s ≡ true → NoPositiveLoop (unfolded P s)
 
--- The words of the unfolded program, read back, are the unfolded program, and so have no positive loop.
+-- The words of the unfolded program, read back, are the unfolded program, and so have no positive loop; its copies' atoms are the entries.
 abbrev pub WordsAreUnfolded : Type 0
 WordsAreUnfolded = (P : Program) (s : List ℕ) → readUnfolded (words (unfolded P s)) ≡ nameless (unfolded P s)
 
 abbrev pub WordsHaveNoLoop : Type 0
 WordsHaveNoLoop = (P : Program) → wellFormed P ≡ true → (s : List ℕ) → below (P .atoms) s ≡ true → NoPositiveLoop (readUnfolded (words (unfolded P s)))
+
+abbrev pub AtomsAreEntries : Type 0
+AtomsAreEntries = (P : Program) (s : List ℕ) → named s (nameless (unfolded P s) .copies) ≡ unfolded P s .copies
 
 -- Dropping rules that read a copy without a rule only shortens the unfolded program, and no kept rule reads such a copy of its own component.
 abbrev pub UnfoldedIsShortened : Type 0
@@ -105,3 +109,11 @@ LiteralsAreNumbered = (P : Program) (s : List ℕ) → Accepted P s → (c : Cla
 
 abbrev pub WordsAreClauses : Type 0
 WordsAreClauses = (P : Program) (s : List ℕ) → Accepted P s → readWords (signedWords (clausesOf P s)) ≡ clausesOf P s
+
+-- Where every chain is found, it is found in every sequence with entries inserted.
+abbrev pub LengthenedPasses : Type 0
+LengthenedPasses = (P : Program) (s longer : List ℕ) → Sublistᴰ s longer → Passes P s → Passes P longer
+
+-- In each model an atom's later copies are true where an earlier one is, whatever the sequence.
+abbrev pub CopiesGrow : Type 0
+CopiesGrow = (P : Program) → wellFormed P ≡ true → (s : List ℕ) (M : Assignment) → isModel M (clausesOf P s) ≡ true → LaterCopiesTrue (unfolded P s .copies) M

@@ -44,3 +44,9 @@ readUnfolded ws = record { copies = readCopies (word ws 0) (drop 1 ws); constrai
 -- The unfolded program without its copies' atoms.
 unfoldable pub nameless : Unfolded → Unfolded
 nameless U = record { copies = map (λ c. record { atom = 0; var = c .var; kept = c .kept }) (U .copies); constraints = U .constraints }
+
+-- Copies that are read back, with the entries that they are copies of: one copy for each, in their order.
+unfoldable pub named : List ℕ → List Copy → List Copy
+named [] cs = []
+named (a ∷ s) [] = []
+named (a ∷ s) (c ∷ cs) = record { atom = a; var = c .var; kept = c .kept } ∷ named s cs

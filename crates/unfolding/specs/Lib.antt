@@ -8,5 +8,6 @@ pub mod Decoded
 pub mod Clauses
 pub mod Faithful
 pub mod Shortened
+pub mod Lengthened
 pub mod Claims
 pub mod inner

@@ -3,7 +3,7 @@
 use rulesheet_tests::reference::{self, read_sequence, read_sheet, Unfolded};
 use rulesheet_tests::report::Statistics;
 use rulesheet_tests::service::{Answer, Argument, Call, Host, Operation};
-use rulesheet_tests::sheet::{set_length, CHOICE};
+use rulesheet_tests::sheet::{sequence_bytes, set_length, Sheet, CHOICE};
 use rulesheet_tests::vectors;
 use std::collections::HashSet;
 use std::{fs, path::Path};
@@ -35,6 +35,13 @@ impl Cases {
         }
         self.add_line(from, until(&call, &answer), &call, &answer);
         answer
+    }
+
+    /// Adds a case of each operation that takes a sequence.
+    pub fn add_sequence(&mut self, host: Host, sheet: &Sheet, entries: &[u8]) {
+        for operation in [Operation::Test, Operation::Missing, Operation::Unfolded, Operation::Clauses] {
+            self.add(Call::new(operation, &sheet.bytes()).sequence(&sequence_bytes(entries)).at(host));
+        }
     }
 
     /// Whether the line is new.

@@ -4,6 +4,7 @@ mod cases;
 mod choices;
 mod count;
 mod hub;
+mod lengthened;
 mod lparse;
 mod missing;
 mod positions;
@@ -26,4 +27,5 @@ fn main() {
     missing::cases().write(folder, "missing.txt");
     hub::cases().write(folder, "hub.txt");
     positions::cases().write(folder, "positions.txt");
+    lengthened::cases().write(folder, "lengthened.txt");
 }

@@ -153,7 +153,7 @@ fn sequences(random: &mut Random, graph: &Graph) -> Vec<Vec<u8>> {
         without(&minimal, minimal.len() - 1),
         without(&lacking, random.below(lacking.len())),
         lacking.iter().flat_map(|&entry| [entry; 3]).collect(),
-        lengthened(random, graph, &lacking, 4),
+        lengthened(random, graph, &lacking, 4, OFFICE.entries),
         lacking,
         random_entries(random, graph, 2),
         random_entries(random, graph, 6),
@@ -273,7 +273,7 @@ fn long_sequences(cases: &mut Cases, random: &mut Random) {
         let lacking = without(&minimal, random.below(minimal.len()));
         let longest = padded(&minimal, OFFICE.entries);
         let many = lacking.iter().flat_map(|&entry| vec![entry; OFFICE.entries / lacking.len()]).collect();
-        let drawn = lengthened(random, &graph, &lacking, OFFICE.entries);
+        let drawn = lengthened(random, &graph, &lacking, OFFICE.entries, OFFICE.entries);
         for entries in [longest[..OFFICE.entries - 1].to_vec(), padded(&lacking, OFFICE.entries), many, drawn, longest]
         {
             ask(cases, random, &sheet, &entries);

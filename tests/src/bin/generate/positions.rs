@@ -5,8 +5,8 @@ use rulesheet_tests::inputs::{upto, Shape};
 use rulesheet_tests::random::Random;
 use rulesheet_tests::reference::Graph;
 use rulesheet_tests::sequences::minimal;
-use rulesheet_tests::service::{Call, Host, Operation};
-use rulesheet_tests::sheet::{sequence_bytes, Sheet};
+use rulesheet_tests::service::Host;
+use rulesheet_tests::sheet::Sheet;
 
 pub fn cases() -> Cases {
     let mut cases = Cases::default();
@@ -38,11 +38,11 @@ fn last_entry(cases: &mut Cases, random: &mut Random, host: Host, shape: Shape, 
         for (&place, &entry) in places.iter().zip(&minimal) {
             entries[place] = entry;
         }
-        ask(cases, host, &sheet, &entries);
+        cases.add_sequence(host, &sheet, &entries);
         for place in [number - 1, *random.pick(&places)] {
             let mut lacking = entries.clone();
             lacking[place] = size;
-            ask(cases, host, &sheet, &lacking);
+            cases.add_sequence(host, &sheet, &lacking);
         }
     }
 }
@@ -58,10 +58,4 @@ fn places(random: &mut Random, size: usize, number: usize) -> Vec<usize> {
     let mut places: Vec<usize> = [number - 1].into_iter().chain(near).chain(others).take(size).collect();
     places.sort_unstable();
     places
-}
-
-fn ask(cases: &mut Cases, host: Host, sheet: &Sheet, entries: &[u8]) {
-    for operation in [Operation::Test, Operation::Missing, Operation::Unfolded, Operation::Clauses] {
-        cases.add(Call::new(operation, &sheet.bytes()).sequence(&sequence_bytes(entries)).at(host));
-    }
 }

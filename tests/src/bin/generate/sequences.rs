@@ -92,7 +92,7 @@ fn near_the_limit(cases: &mut Cases, random: &mut Random, sheet: &Sheet) {
     test(cases, sheet, &mixed);
     test(cases, sheet, &minimal);
     for _ in 0..2 {
-        test(cases, sheet, &lengthened(random, &graph, &minimal, 5));
+        test(cases, sheet, &lengthened(random, &graph, &minimal, 5, OFFICE.entries));
         if !minimal.is_empty() {
             test(cases, sheet, &without(&minimal, random.below(minimal.len())));
         }
@@ -172,7 +172,7 @@ fn last_entry(cases: &mut Cases, random: &mut Random) {
             test(cases, &sheet, &entries);
             test(cases, &sheet, &entries[..number - 1]);
         }
-        test(cases, &sheet, &lengthened(random, &graph, &minimal, OFFICE.entries));
+        test(cases, &sheet, &lengthened(random, &graph, &minimal, OFFICE.entries, OFFICE.entries));
     }
     six_components(cases, random);
 }
@@ -187,7 +187,7 @@ fn six_components(cases: &mut Cases, random: &mut Random) {
     let mixed = mixed(random, &graph);
     test(cases, &sheet, &default);
     test(cases, &sheet, &default[..default.len() - 1]);
-    test(cases, &sheet, &lengthened(random, &graph, &mixed, OFFICE.entries));
+    test(cases, &sheet, &lengthened(random, &graph, &mixed, OFFICE.entries, OFFICE.entries));
     // Nothing is missing but one chain of the last component.
     let one = Graph::new(&Sheet::new(10, rules(random, 0)));
     let last = minimal(random, &one, &one.default_sequence()).iter().map(|atom| 50 + atom).collect::<Vec<_>>();

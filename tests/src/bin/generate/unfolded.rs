@@ -62,7 +62,7 @@ fn with_choices(cases: &mut Cases, random: &mut Random) {
     // Many copies of heads and of fresh atoms.
     for sheet in [choices::any(random, 10), choices::any(random, 10)] {
         let graph = Graph::new(&sheet);
-        let entries = lengthened(random, &graph, &graph.default_sequence(), OFFICE.entries);
+        let entries = lengthened(random, &graph, &graph.default_sequence(), OFFICE.entries, OFFICE.entries);
         ask(cases, random, &sheet, &entries);
     }
 }
@@ -95,8 +95,13 @@ fn some_sequences(cases: &mut Cases, random: &mut Random, sheet: &Sheet) {
     let default = graph.default_sequence();
     let mixed = mixed(random, &graph);
     let minimal = minimal(random, &graph, &mixed);
-    let mut sequences =
-        [lengthened(random, &graph, &minimal, 4), lengthened(random, &graph, &default, 2), default, mixed, minimal];
+    let mut sequences = [
+        lengthened(random, &graph, &minimal, 4, OFFICE.entries),
+        lengthened(random, &graph, &default, 2, OFFICE.entries),
+        default,
+        mixed,
+        minimal,
+    ];
     random.shuffle(&mut sequences);
     for entries in &sequences[..2] {
         ask(cases, random, sheet, entries);
@@ -261,7 +266,7 @@ fn long_outputs(cases: &mut Cases, random: &mut Random) {
     for shape in [Shape::CompleteSplit, Shape::Complete, Shape::Tangle] {
         let sheet = connected(random, shape, 10);
         let graph = Graph::new(&sheet);
-        let entries = lengthened(random, &graph, &graph.default_sequence(), OFFICE.entries);
+        let entries = lengthened(random, &graph, &graph.default_sequence(), OFFICE.entries, OFFICE.entries);
         ask(cases, random, &sheet, &entries);
     }
     let sheet = loop {
@@ -272,7 +277,7 @@ fn long_outputs(cases: &mut Cases, random: &mut Random) {
     };
     let graph = Graph::new(&sheet);
     ask(cases, random, &sheet, &graph.default_sequence());
-    let entries = lengthened(random, &graph, &graph.default_sequence(), OFFICE.entries);
+    let entries = lengthened(random, &graph, &graph.default_sequence(), OFFICE.entries, OFFICE.entries);
     ask(cases, random, &sheet, &entries);
 }
 
