@@ -23,7 +23,8 @@ use Rattle.bits.specs.inner.Listed.{Listing}
 use Rattle.bits.specs.inner.Visited.{listed}
 use Rattle.bits.specs.declared.Atoms.{Atoms}
 use Rattle.bits.proofs.Listing.{listed-has, listed-place, listed-apart}
-use Rattle.chains.specs.inner.Subsets.{Roomy, Setting, Tested, Edged, Members, ComponentTested, SetTested, Graph, Small, PassesBy}
+use Rattle.chain_rows.specs.inner.Subsets.{Roomy, Setting}
+use Rattle.chains.specs.inner.Components.{Tested, Edged, Members, ComponentTested, SetTested, Graph, Small, PassesBy}
 
 -- A component's atoms, listed.
 module _ (x : ℕ) (L : Atoms) (S : Listing x L) (P : Program) (c : ℕ) (rows : List ℕ) (G : Edged P rows) (M : Members P c x) where

@@ -1,4 +1,2 @@
-pub mod Rows
-pub mod Places
-pub mod Turning
+pub mod Testing
 pub mod Components

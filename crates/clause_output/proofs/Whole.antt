@@ -19,7 +19,7 @@ use Rattle.copies.specs.inner.Ready.{Ready, unfoldedIn}
 use Rattle.copies.specs.inner.Totals.{keptBodies}
 use Rattle.copies.specs.declared.EntryCopy.{EntryCopy}
 use Rattle.copies.proofs.Keeping.{bodies-number}
-use Rattle.copies.proofs.Emitting.{Emitting, emitting-start, emitting-end, emitting-entry, emitting-fresh, emitting-var, emitting-vars, emitting-here, emitting-turn}
+use Rattle.copies.proofs.Emitting.{Emitting, emitting-start, emitting-end, emitting-entry, emitting-highest, emitting-var, emitting-vars, emitting-here, emitting-turn}
 use Rattle.copies.proofs.Sizes.{copies-number, rules-short, constraints-by-last}
 use Rattle.rule_clauses.specs.inner.Literals.{SmallVariables}
 use Rattle.rule_clauses.proofs.Rule.{signed-append}
@@ -71,7 +71,7 @@ module _ (t : ProgramTable) (q : List ℕ) (old : List ℤ) where
   total = copiesClauseWords (unfoldedIn t q)
 
   abbrev pub ClausesWritten : ℕ → ℕ → List ℕ → ℕ → List ℤ → Ends → Type 0
-  ClausesWritten i keeping latest fresh cur E = Emitting t q i keeping latest fresh (ClausesLeft old total cur E)
+  ClausesWritten i keeping latest highest cur E = Emitting t q i keeping latest highest (ClausesLeft old total cur E)
 
 module _ (t : ProgramTable) (names sets q : List ℕ) (R : Ready t names sets q) (old : List ℤ) where
   pub copies-start : ClausesWritten t q old 3 0 (replicate 64 0) (t .atoms) old (record { at = 0; rule = length q - 2 })
@@ -85,7 +85,7 @@ module _ (t : ProgramTable) (names sets q : List ℕ) (R : Ready t names sets q)
       emitting-start t names sets q R (ClausesLeft old (total t q old) old (record { at = 0; rule = length q - 2 }))
       (record { few = omega arith; rest = left-start old 0 (total t q old) _ (ap (λ d. signedWords (copiesClauses d (unfoldedIn t q .copies))) e) })
 
-  module _ (i keeping : ℕ) (latest : List ℕ) (fresh : ℕ) (cur : List ℤ) (E : Ends) (W : ClausesWritten t q old i keeping latest fresh cur E) where
+  module _ (i keeping : ℕ) (latest : List ℕ) (highest : ℕ) (cur : List ℤ) (E : Ends) (W : ClausesWritten t q old i keeping latest highest cur E) where
     abbrev Rest : List Copy → Type 0
     Rest = ClausesLeft old (total t q old) cur E
 
@@ -94,21 +94,21 @@ module _ (t : ProgramTable) (names sets q : List ℕ) (R : Ready t names sets q)
 
     pub copies-end : length q ≤ i → Wrote old 0 (copiesClauseWords (unfoldedIn t q)) cur (E .at)
     unfolding copiesClauses signedWords flatMap
-    copies-end l = left-end old 0 (total t q old) cur [] (E .at) (emitting-end t names sets q R i keeping latest fresh Rest W l .rest) refl
+    copies-end l = left-end old 0 (total t q old) cur [] (E .at) (emitting-end t names sets q R i keeping latest highest Rest W l .rest) refl
 
     module _ (within : i < length q) where
       pub copies-entry : EntryAt names q i
-      copies-entry = emitting-entry t names sets q R i keeping latest fresh Rest W within
+      copies-entry = emitting-entry t names sets q R i keeping latest highest Rest W within
 
-      pub copies-fresh : fresh < 4294967295
-      copies-fresh = emitting-fresh t names sets q R i keeping latest fresh Rest W within
+      pub copies-highest : highest < 4294967295
+      copies-highest = emitting-highest t names sets q R i keeping latest highest Rest W within
 
       pub copies-rule : E .rule < 1000000
       copies-rule = let f = W .left .rest .rest .few in omega arith
 
-      module _ (c : EntryCopy) (M : Made q i names sets fresh c) where
+      module _ (c : EntryCopy) (M : Made q i names sets highest c) where
         pub copies-var : c .var < 2147483648
-        copies-var = let l = emitting-var t names sets q R i keeping latest fresh Rest W within c M in omega arith
+        copies-var = let l = emitting-var t names sets q R i keeping latest highest Rest W within c M in omega arith
 
         module _ (list : List ℕ) (k : ℕ) (K : Kept (t .heads) (t .pos) (t .rules) (c .atom) (c .component) keeping list k)
             (lasts vars : List ℕ) (F : Values last lasts) (O : Overlaid (c .component) latest lasts vars) where
@@ -122,7 +122,7 @@ module _ (t : ProgramTable) (names sets q : List ℕ) (R : Ready t names sets q)
           here = copyClauseWords (t .pos) (t .neg) (t .added) vars (E .rule) (c .var) list k
 
           pub copies-small : SmallVariables vars
-          copies-small = record { low = λ b l. let h = emitting-vars t names sets q R i keeping latest fresh Rest W within c M list k K lasts vars F O b l in omega arith }
+          copies-small = record { low = λ b l. let h = emitting-vars t names sets q R i keeping latest highest Rest W within c M list k K lasts vars F O b l in omega arith }
 
           step : (cs : List Copy) → signedWords (copiesClauses (E .rule) (copy ∷ cs)) ≡ here ++ signedWords (copiesClauses (E .rule + k) cs)
           unfolding copiesClauses copyClauses copyClauseWords
@@ -132,14 +132,14 @@ module _ (t : ProgramTable) (names sets q : List ℕ) (R : Ready t names sets q)
 
           pub copies-room : length (copiesClauseWords (unfoldedIn t q)) ≤ length old → E .at + length (copyClauseWords (t .pos) (t .neg) (t .added) vars (E .rule) (c .var) list k) ≤ length cur
           copies-room h =
-              let S = emitting-here t names sets q R i keeping latest fresh Rest W within c M list k K lasts vars F O in
+              let S = emitting-here t names sets q R i keeping latest highest Rest W within c M list k K lasts vars F O in
               left-room old 0 (total t q old) cur here _ _ (E .at) (S .holds .rest) (step (S .copies)) (let l : 0 + length (copiesClauseWords (unfoldedIn t q)) ≤ length old = omega arith in l)
 
           pub copies-turn : (marked : ℕ) → Marked keeping (c .atom) k marked → (new : List ℤ) (E′ : Ends) → CopyPut (t .pos) (t .neg) (t .added) vars (c .var) list k cur new E E′
-              → ClausesWritten t q old (i + 1) marked (set latest (c .atom) (c .var)) (c .fresh) new E′
+              → ClausesWritten t q old (i + 1) marked (set latest (c .atom) (c .var)) (c .highest) new E′
           unfolding flatMap
           copies-turn marked X new E′ P =
-              emitting-turn t names sets q R i keeping latest fresh Rest W within c M list k K lasts vars F O marked (ClausesLeft old (total t q old) new E′) X one
+              emitting-turn t names sets q R i keeping latest highest Rest W within c M list k K lasts vars F O marked (ClausesLeft old (total t q old) new E′) X one
             where
               counted : (cs : List Copy) → length (keptBodies (copy ∷ cs)) ≡ k + length (keptBodies cs)
               counted cs = let e = length-append bodies (keptBodies cs) in let f = bodies-number (t .pos) (t .neg) (t .added) vars list k in omega arith

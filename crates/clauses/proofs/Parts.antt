@@ -9,8 +9,9 @@ use lib.ListN.{length, length-drop, take, drop}
 use lib.Seq.{take-all}
 use Rattle.dimacs.specs.Text.{sheetOf, sequenceOf}
 use Rattle.dimacs.specs.inner.Split.{SheetEnd}
-use Rattle.core.specs.Promises.{ClausesPromise}
-use Rattle.core.specs.declared.ClausesAnswer.{ClausesAnswer}
+use Rattle.operations.specs.Outcome.{Outcome}
+use Rattle.operations.specs.Calls.{Buffer, Promised}
+use Rattle.operations.specs.Calls as call
 use Rattle.office.specs.Office.{office}
 
 module _ (input : List ℕ) (e : ℕ) (S : SheetEnd input e) where
@@ -20,8 +21,8 @@ module _ (input : List ℕ) (e : ℕ) (S : SheetEnd input e) where
   sequence-part : take (length input - e) (drop e input) ≡ sequenceOf input
   sequence-part = take-all (length input - e) (drop e input) (let k = length-drop e input in omega arith) ∙ ap (λ k. drop k input) (S .is)
 
-  pub parts-promise : (old new : List ℤ) (r : ClausesAnswer) → ClausesPromise office (take (e - 0) input) (take (length input - e) (drop e input)) old new r
-      → ClausesPromise office (sheetOf input) (sequenceOf input) old new r
-  parts-promise old new r E =
-      subst (λ q. ClausesPromise office (sheetOf input) q old new r) sequence-part
-      (subst (λ s. ClausesPromise office s (take (length input - e) (drop e input)) old new r) sheet-part E)
+  pub parts-promise : (old : List ℤ) (o : Outcome) (b : Buffer) → Promised office (call.clauses (take (e - 0) input) (take (length input - e) (drop e input)) old) o b
+      → Promised office (call.clauses (sheetOf input) (sequenceOf input) old) o b
+  parts-promise old o b E =
+      subst (λ q. Promised office (call.clauses (sheetOf input) q old) o b) sequence-part
+      (subst (λ s. Promised office (call.clauses s (take (length input - e) (drop e input)) old) o b) sheet-part E)

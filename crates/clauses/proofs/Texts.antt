@@ -7,8 +7,8 @@ use native.Mathlib.Nat.{sub-zero}
 use native.Mathlib.Omega.{arith}
 use borrow.Author.Tests.{eq-eqb, leb-true}
 use lib.Dec.{eqb, leb}
-use lib.IntN.{ℤ}
-use lib.ListN.{length, length-append, take, drop}
+use lib.IntN.{ℤ, pos}
+use lib.ListN.{length, length-append, length-replicate, take, drop}
 use lib.Seq.{take-append-seam}
 use mir.Syntax.{w32}
 use mir.Val.{Fits}
@@ -18,7 +18,8 @@ use Rattle.unfolding.specs.Claims.{Accepted}
 use Rattle.unfolding.proofs.Claims.{literals-are-numbered}
 use Rattle.sheet.specs.Sequence.{entries}
 use Rattle.sheet.specs.Sheet.{program}
-use Rattle.sheet.proofs.Walk.{ask-passed, then-passed}
+use Rattle.sheet.specs.Questions.{firstRefusal}
+use Rattle.sheet.proofs.Questions.{ask-passed, then-passed}
 use Rattle.writer.specs.inner.Wrote.{Wrote}
 use Rattle.writer.proofs.Writing.{wrote-front}
 use Rattle.text.specs.Text.{refusedText}
@@ -27,45 +28,46 @@ use Rattle.dimacs.specs.inner.Words.{wordsText}
 use Rattle.text.proofs.Lines.{refused-short}
 use Rattle.dimacs.proofs.Lines.{header-short}
 use Rattle.dimacs.proofs.Clauses.{clauses-text, words-short, words-small}
-use Rattle.core.specs.Outcome.{answered, fromClauses}
-use Rattle.core.specs.Outputs.{clausesOutput, clauseNumbers}
-use Rattle.core.specs.Questions.{testQuestions, clausesQuestions, question10}
-use Rattle.core.specs.Promises.{clausesOutcome, ClausesPromise}
-use Rattle.core.specs.declared.ClausesAnswer.{ClausesAnswer}
-use Rattle.core.specs.declared.ClausesAnswer.the-variants as clauses
-use Rattle.demands.proofs.Accepting.{test-accepted}
-use Rattle.core.proofs.Outcomes.{emitted-refusal, emitted-passed, emitted-values, emitted-output}
+use Rattle.operations.specs.Outcome.{answered, fromClauses}
+use Rattle.operations.specs.Outputs.{clausesOutput, clauseNumbers}
+use Rattle.operations.specs.Questions.{question9, question10}
+use Rattle.operations.specs.Calls.{withSequence, integers, over, describe, inputQuestions, questions, Promised}
+use Rattle.operations.specs.Calls as call
+use Rattle.operations.specs.declared.ClausesAnswer.{ClausesAnswer}
+use Rattle.operations.specs.declared.ClausesAnswer.the-variants as clauses
+use Rattle.operations.specs.inner.Refusals.{inputRefusal, callRefusal}
+use Rattle.operations.proofs.Promises.{promised-number, promised-passed, promised-values, promised-written}
+use Rattle.guarantees.proofs.Accepting.{call-passed, both-accepted}
 use Rattle.office.specs.Office.{office}
-use Rattle.clauses.specs.Printed.{refusal, clausesText, printed, Prints}
+use Rattle.clauses.specs.Printed.{lentWords, refusal, clausesText, printed, Prints}
 use Rattle.clauses.proofs.Sizes.{variables-few, clauses-few}
 
 -- A text that fits stands at the beginning of the buffer.
 prints-text : (input text old new : List ℕ) (next : ℕ) → Wrote old 0 text new next → length text ≤ length old → text ≡ printed input → Prints input new next
 prints-text input text old new next W l e = let front = wrote-front old text new next W l in record { inside = front .0; text = front .1 ∙ e }
 
-module _ (s q : List ℕ) (old new : List ℤ) (r : ClausesAnswer) (E : ClausesPromise office s q old new r) where
+module _ (s q : List ℕ) (old new : List ℤ) (r : ClausesAnswer) (E : Promised office (call.clauses s q old) (fromClauses r) (integers new)) where
   abbrev asked : ℕ
-  asked = clausesQuestions office (length old) s q
+  asked = callRefusal office (call.clauses s q old)
 
   abbrev output : List ℤ
   output = clausesOutput s q
 
-  abbrev values : List ℕ
-  values = length output ∷ clauseNumbers s q
-
   -- The number of a refusal is that of the first question whose answer is no.
   refused-says : (n : ℕ) → r ≡ clauses.Refused n → (n ≡ asked) × (eqb asked 0 ≡ false)
-  unfolding ClausesPromise clausesOutcome
-  refused-says n e = emitted-refusal asked values output old new (fromClauses r) E n (ap fromClauses e)
+  refused-says n e =
+      promised-number office (call.clauses s q old) (integers new) n (subst (λ o. Promised office (call.clauses s q old) o (integers new)) (ap fromClauses e) E)
 
   module _ (k v c : ℕ) (e : r ≡ clauses.Written k v c) where
-    passed : asked ≡ 0
-    unfolding ClausesPromise clausesOutcome
-    passed = emitted-passed asked values output old new (fromClauses r) E (k ∷ v ∷ c ∷ []) (ap fromClauses e)
+    promised : Promised office (call.clauses s q old) (answered (k ∷ v ∷ c ∷ [])) (integers new)
+    promised = subst (λ o. Promised office (call.clauses s q old) o (integers new)) (ap fromClauses e) E
 
-    same : answered (k ∷ v ∷ c ∷ []) ≡ answered values
-    unfolding ClausesPromise clausesOutcome
-    same = emitted-values asked values output old new (fromClauses r) E (k ∷ v ∷ c ∷ []) (ap fromClauses e)
+    passed : asked ≡ 0
+    passed = promised-passed office (call.clauses s q old) (integers new) (k ∷ v ∷ c ∷ []) promised
+
+    same : answered (k ∷ v ∷ c ∷ []) ≡ answered (length output ∷ clauseNumbers s q)
+    unfolding describe
+    same = promised-values office (call.clauses s q old) (integers new) (k ∷ v ∷ c ∷ []) promised
 
     long : k ≡ length output
     long = cc same
@@ -74,9 +76,9 @@ module _ (s q : List ℕ) (old new : List ℤ) (r : ClausesAnswer) (E : ClausesP
     unfolding clauseNumbers
     numbers = (cc same, cc same)
 
-    whole : new ≡ output ++ drop (length output) old
-    unfolding ClausesPromise clausesOutcome
-    whole = emitted-output asked values output old new (fromClauses r) E (k ∷ v ∷ c ∷ []) (ap fromClauses e)
+    whole : new ≡ over output old
+    unfolding describe
+    whole = let w : integers new ≡ integers (over output old) = promised-written office (call.clauses s q old) (integers new) (k ∷ v ∷ c ∷ []) promised in cc w
 
     pub written-inside : k ≤ length new
     written-inside = let l = long in let w = ap length whole ∙ length-append output (drop (length output) old) in omega arith
@@ -84,14 +86,18 @@ module _ (s q : List ℕ) (old new : List ℤ) (r : ClausesAnswer) (E : ClausesP
     front : take k new ≡ output
     front = ap (λ j. take j new) long ∙ (ap (take (length output)) whole ∙ take-append-seam output (drop (length output) old))
 
-    asked-parts : (testQuestions office s q ≡ 0) × (question10 output (length old) ≡ 0)
-    asked-parts = then-passed (testQuestions office s q) (question10 output (length old)) passed
+    asked-parts : (inputRefusal office (withSequence s q) ≡ 0) × (question9 s q ≡ 0) × (question10 output (length old) ≡ 0)
+    unfolding describe firstRefusal
+    asked-parts =
+        let parts = call-passed office (call.clauses s q old) passed in
+        let behind = then-passed (question9 s q) _ (parts .1) in
+        (parts .0, behind .0, then-passed (question10 output (length old)) 0 (behind .1) .0)
 
     fits : length output ≤ length old
-    fits = leb-true (length output) (length old) (ask-passed (leb (length output) (length old)) 10 (λ z. omega arith) (asked-parts .1))
+    fits = leb-true (length output) (length old) (ask-passed (leb (length output) (length old)) 10 (λ z. omega arith) (asked-parts .2))
 
     accepted : Accepted (program s) (entries q)
-    accepted = test-accepted office s q (asked-parts .0)
+    accepted = both-accepted office s q (asked-parts .0) (asked-parts .1)
 
     few : 2 * variablesOf (program s) (entries q) ≤ length output
     unfolding clausesOutput
@@ -140,11 +146,18 @@ module _ (s q : List ℕ) (old new : List ℤ) (r : ClausesAnswer) (E : ClausesP
           let t = length-append (headerText v c) (wordsText (take (k - 0) new)) in
           omega arith
 
-module _ (input : List ℕ) (old new : List ℤ) (r : ClausesAnswer) (E : ClausesPromise office (sheetOf input) (sequenceOf input) old new r)
+lent-size : length lentWords ≡ 16384
+unfolding lentWords
+lent-size = length-replicate 16384 (pos 0)
+
+module _ (input : List ℕ) (old new : List ℤ) (r : ClausesAnswer) (E : Promised office (call.clauses (sheetOf input) (sequenceOf input) old) (fromClauses r) (integers new))
     (size : length old ≡ 16384) (before after : List ℕ) (next : ℕ) (room : 98352 ≤ length before) where
-  asked-is : clausesQuestions office (length old) (sheetOf input) (sequenceOf input) ≡ refusal input
-  unfolding refusal
-  asked-is = ap (λ k. clausesQuestions office k (sheetOf input) (sequenceOf input)) size
+  asked-is : callRefusal office (call.clauses (sheetOf input) (sequenceOf input) old) ≡ refusal input
+  unfolding refusal describe questions
+  asked-is =
+      let s = sheetOf input in
+      let q = sequenceOf input in
+      ap (λ room. firstRefusal (inputQuestions office (withSequence s q) ++ (question9 s q ∷ question10 (clausesOutput s q) room ∷ []))) (size ∙ sym lent-size)
 
   prints-refused : (n : ℕ) → r ≡ clauses.Refused n → Fits w32 n → Wrote before 0 (refusedText n) after next → Prints input after next
   unfolding printed
@@ -165,7 +178,7 @@ module _ (input : List ℕ) (old new : List ℤ) (r : ClausesAnswer) (E : Clause
 
 -- The same where the input stands in the first n bytes of the buffer that the text is written to.
 module _ (buffer : List ℕ) (n : ℕ) (old new : List ℤ) (r : ClausesAnswer)
-    (E : ClausesPromise office (sheetOf (take (n - 0) buffer)) (sequenceOf (take (n - 0) buffer)) old new r)
+    (E : Promised office (call.clauses (sheetOf (take (n - 0) buffer)) (sequenceOf (take (n - 0) buffer)) old) (fromClauses r) (integers new))
     (size : length old ≡ 16384) (after : List ℕ) (next : ℕ) (room : 98352 ≤ length buffer) where
   prints-front : Prints (take (n - 0) buffer) after next → Prints (take n buffer) after next
   prints-front h = subst (λ k. Prints (take k buffer) after next) (sub-zero n) h

@@ -4,18 +4,25 @@ use mathlib.Core.List.{List}
 use mathlib.Core.Path.{_≡_}
 use Prim.Native.Nat.{ℕ, _≤_}
 use lib.Dec.{eqb}
-use lib.ListN.{length, take}
+use lib.IntN.{ℤ, pos}
+use lib.ListN.{length, take, replicate}
 use Rattle.unfolding.specs.Faithful.{clausesOf, variablesOf}
+use Rattle.sheet.specs.Questions.{firstRefusal}
 use Rattle.sheet.specs.Sequence.{entries}
 use Rattle.sheet.specs.Sheet.{program}
 use Rattle.text.specs.Text.{refusedText}
 use Rattle.dimacs.specs.Text.{sheetOf, sequenceOf, dimacsText}
-use Rattle.core.specs.Questions.{clausesQuestions}
+use Rattle.operations.specs.Calls.{questions}
+use Rattle.operations.specs.Calls as call
 use Rattle.office.specs.Office.{office}
 
--- The first question whose answer is no, 0 where there is none: 16,384 words are lent.
+-- The words that are lent: 16,384.
+unfoldable pub lentWords : List ℤ
+lentWords = replicate 16384 (pos 0)
+
+-- The first question whose answer is no, 0 where there is none.
 unfoldable pub refusal : List ℕ → ℕ
-refusal input = clausesQuestions office 16384 (sheetOf input) (sequenceOf input)
+refusal input = firstRefusal (questions office (call.clauses (sheetOf input) (sequenceOf input) lentWords))
 
 -- The clauses as DIMACS CNF.
 unfoldable pub clausesText : List ℕ → List ℕ

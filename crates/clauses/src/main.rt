@@ -1,18 +1,21 @@
 // A sheet and a sequence on standard input; out come their clauses as DIMACS CNF text, or the refusal.
-use core::ClausesAnswer;
 use dimacs::put_dimacs;
 use dimacs::sheet_end;
+use operations::ClausesAnswer;
 use text::put_refused;
 ghost use Prim.Native.Nat.{_≤_};
 ghost use lib.ListN.{length, take};
 ghost use Rattle.dimacs.specs.Text.{sheetOf, sequenceOf};
-ghost use Rattle.core.specs.Promises.{ClausesPromise};
+ghost use Rattle.operations.specs.Outcome.{fromClauses};
+ghost use Rattle.operations.specs.Calls.{integers, Promised};
+ghost use Rattle.operations.specs.Calls as call;
 ghost use Rattle.office.specs.Office.{office};
 ghost use Rattle.clauses.specs.Printed.{Prints};
 
 // Writes the clauses of the input's sheet and sequence.
 fn write_clauses(input: &[u8], words: &mut [i32]) -> ClausesAnswer
-    ensures { λ r. ⌜ ClausesPromise office (sheetOf (now (input .entry))) (sequenceOf (now (input .entry))) (now (words .entry)) (now (words .exit)) r ⌝ }
+    ensures { λ r. ⌜ Promised office (call.clauses (sheetOf (now (input .entry))) (sequenceOf (now (input .entry))) (now (words .entry))) (fromClauses r)
+        (integers (now (words .exit))) ⌝ }
 {
     let e = sheet_end(input);
     office::clauses(&input[0..e], &input[e..], words)

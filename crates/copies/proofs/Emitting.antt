@@ -17,12 +17,12 @@ use Rattle.copies.specs.declared.EntryCopy.{EntryCopy}
 use Rattle.copies.proofs.Going.{copyOf, CopiesLeft, copies-start, copies-here, copies-turn, copies-end, entry-at, Tracks, tracks-start, tracks-turn, copy-is, var-small, vars-small}
 
 -- The tables follow the copies made so far, and what holds of the copies that are left.
-pub record Tracked (n : ℕ) (latest : List ℕ) (fresh : ℕ) (Rest : List Copy → Type 0) (extra : ℕ) (past copies : List Copy) : Type 0 where
-  pub tracks : Tracks n extra past latest fresh
+pub record Tracked (n : ℕ) (latest : List ℕ) (highest : ℕ) (Rest : List Copy → Type 0) (extra : ℕ) (past copies : List Copy) : Type 0 where
+  pub tracks : Tracks n extra past latest highest
   pub rest : Rest copies
 
-pub record Emitting (t : ProgramTable) (q : List ℕ) (i keeping : ℕ) (latest : List ℕ) (fresh : ℕ) (Rest : List Copy → Type 0) : Type 0 where
-  pub left : CopiesLeft t q i keeping (Tracked (t .atoms) latest fresh Rest)
+pub record Emitting (t : ProgramTable) (q : List ℕ) (i keeping : ℕ) (latest : List ℕ) (highest : ℕ) (Rest : List Copy → Type 0) : Type 0 where
+  pub left : CopiesLeft t q i keeping (Tracked (t .atoms) latest highest Rest)
 
 -- Some copies are left of which it holds.
 pub record Some (Rest : List Copy → Type 0) : Type 0 where
@@ -33,20 +33,20 @@ module _ (t : ProgramTable) (names sets q : List ℕ) (R : Ready t names sets q)
   pub emitting-start : (Rest : List Copy → Type 0) → Rest (unfoldedIn t q .copies) → Emitting t q 3 0 (replicate 64 0) (t .atoms) Rest
   emitting-start Rest r = record { left = copies-start t q (Tracked (t .atoms) (replicate 64 0) (t .atoms) Rest) (record { tracks = tracks-start (t .atoms); rest = r }) }
 
-  module _ (i keeping : ℕ) (latest : List ℕ) (fresh : ℕ) (Rest : List Copy → Type 0) (E : Emitting t q i keeping latest fresh Rest) where
+  module _ (i keeping : ℕ) (latest : List ℕ) (highest : ℕ) (Rest : List Copy → Type 0) (E : Emitting t q i keeping latest highest Rest) where
     pub emitting-end : length q ≤ i → Rest []
-    emitting-end l = copies-end t q i keeping (Tracked (t .atoms) latest fresh Rest) (E .left) l .rest
+    emitting-end l = copies-end t q i keeping (Tracked (t .atoms) latest highest Rest) (E .left) l .rest
 
     module _ (within : i < length q) where
       pub emitting-entry : EntryAt names q i
       emitting-entry = entry-at t names sets q R i (E .left .from) within
 
-      pub emitting-fresh : fresh < 4294967295
-      emitting-fresh = let f = E .left .rest .tracks .next in let g = E .left .few in let a = R .readable .atoms in let s = R .short in omega arith
+      pub emitting-highest : highest < 4294967295
+      emitting-highest = let f = E .left .rest .tracks .next in let g = E .left .few in let a = R .readable .atoms in let s = R .short in omega arith
 
-      module _ (c : EntryCopy) (M : Made q i names sets fresh c) where
+      module _ (c : EntryCopy) (M : Made q i names sets highest c) where
         pub emitting-var : c .var < 1024
-        emitting-var = var-small t names sets q R i (E .left .extra) (E .left .past) (E .left .few) within latest fresh (E .left .rest .tracks) c M
+        emitting-var = var-small t names sets q R i (E .left .extra) (E .left .past) (E .left .few) within latest highest (E .left .rest .tracks) c M
 
         module _ (list : List ℕ) (k : ℕ) (K : Kept (t .heads) (t .pos) (t .rules) (c .atom) (c .component) keeping list k)
             (lasts vars : List ℕ) (F : Values last lasts) (O : Overlaid (c .component) latest lasts vars) where
@@ -54,14 +54,14 @@ module _ (t : ProgramTable) (names sets q : List ℕ) (R : Ready t names sets q)
           copy = record { atom = c .atom; var = c .var; kept = bodiesBy (t .pos) (t .neg) (t .added) vars list k }
 
           same : copyOf t q i (E .left .extra) (E .left .past) ≡ copy
-          same = copy-is t names sets q R i (E .left .extra) (E .left .past) (E .left .few) within latest fresh (E .left .rest .tracks) c M keeping (E .left .marks) list k K lasts vars F O
+          same = copy-is t names sets q R i (E .left .extra) (E .left .past) (E .left .few) within latest highest (E .left .rest .tracks) c M keeping (E .left .marks) list k K lasts vars F O
 
           pub emitting-vars : (b : ℕ) → b < 64 → getD vars b 0 < 1024
-          emitting-vars = vars-small t names sets q R i (E .left .extra) (E .left .past) (E .left .few) within latest fresh (E .left .rest .tracks) c M keeping (E .left .marks) list k K lasts vars F O
+          emitting-vars = vars-small t names sets q R i (E .left .extra) (E .left .past) (E .left .few) within latest highest (E .left .rest .tracks) c M keeping (E .left .marks) list k K lasts vars F O
 
           -- What holds, with the copy in front.
           pub emitting-here : Some (λ cs. Rest (copy ∷ cs))
-          emitting-here = some _ (copies-here t q i keeping (Tracked (t .atoms) latest fresh Rest) (E .left) within .rest)
+          emitting-here = some _ (copies-here t q i keeping (Tracked (t .atoms) latest highest Rest) (E .left) within .rest)
             where
               some : (cs : List Copy) → Rest (copyOf t q i (E .left .extra) (E .left .past) ∷ cs) → Some (λ cs. Rest (copy ∷ cs))
               some cs h = record { copies = cs; holds = subst (λ d. Rest (d ∷ cs)) same h }
@@ -74,12 +74,12 @@ module _ (t : ProgramTable) (names sets q : List ℕ) (R : Ready t names sets q)
 
           -- One copy more.
           pub emitting-turn : (next : ℕ) (Rest′ : List Copy → Type 0) → Marked keeping (c .atom) k next → ((cs : List Copy) → Rest (copy ∷ cs) → Rest′ cs)
-              → Emitting t q (i + 1) next (set latest (c .atom) (c .var)) (c .fresh) Rest′
+              → Emitting t q (i + 1) next (set latest (c .atom) (c .var)) (c .highest) Rest′
           emitting-turn next Rest′ N f =
               record {
-                left = copies-turn t q i keeping (Tracked (t .atoms) latest fresh Rest) (E .left) within (c .atom) k next (Tracked (t .atoms) (set latest (c .atom) (c .var)) (c .fresh) Rest′) (M .atom) number N
+                left = copies-turn t q i keeping (Tracked (t .atoms) latest highest Rest) (E .left) within (c .atom) k next (Tracked (t .atoms) (set latest (c .atom) (c .var)) (c .highest) Rest′) (M .atom) number N
                     (λ cs T. record {
-                      tracks = tracks-turn t names sets q R i (E .left .extra) (E .left .past) (E .left .few) within latest fresh (E .left .rest .tracks) c M;
+                      tracks = tracks-turn t names sets q R i (E .left .extra) (E .left .past) (E .left .few) within latest highest (E .left .rest .tracks) c M;
                       rest = f cs (subst (λ d. Rest (d ∷ cs)) same (T .rest));
                     });
               }

@@ -106,11 +106,11 @@ module _ (t : ProgramTable) (names sets q : List ℕ) (R : Ready t names sets q)
   entry-at = let l = entry-atom in let n = R .readable .atoms in record { from = from; within = within; atom = omega arith; name = name-low t names sets q R (getD q i 0) entry-atom }
 
 -- The table of latest copies and the highest variable follow the copies made so far, e of which are not their atom's last.
-pub record Tracks (n e : ℕ) (past : List Copy) (table : List ℕ) (fresh : ℕ) : Type 0 where
+pub record Tracks (n e : ℕ) (past : List Copy) (table : List ℕ) (highest : ℕ) : Type 0 where
   pub long : length table ≡ 64
   pub is : (b : ℕ) → b < 64 → getD table b 0 ≡ latest past b
   pub low : (b : ℕ) → latest past b ≤ n + e
-  pub next : fresh ≡ n + e
+  pub next : highest ≡ n + e
 
 pub tracks-start : (n : ℕ) → Tracks n 0 [] (replicate 64 0) n
 unfolding latest
@@ -118,7 +118,7 @@ tracks-start n = record { long = length-replicate {A = ℕ} 64 0; is = λ b l. g
 
 -- The copy of entry i: its variable, its rules, and the tables behind it.
 module _ (t : ProgramTable) (names sets q : List ℕ) (R : Ready t names sets q) (i e : ℕ) (past : List Copy) (few : e + 3 ≤ i) (within : i < length q)
-    (table : List ℕ) (fresh : ℕ) (T : Tracks (t .atoms) e past table fresh) (c : EntryCopy) (M : Made q i names sets fresh c) where
+    (table : List ℕ) (highest : ℕ) (T : Tracks (t .atoms) e past table highest) (c : EntryCopy) (M : Made q i names sets highest c) where
   abbrev n : ℕ
   n = t .atoms
 
@@ -127,7 +127,7 @@ module _ (t : ProgramTable) (names sets q : List ℕ) (R : Ready t names sets q)
 
   var-is : c .var ≡ variable (programIn t) e (getD q i 0) (again q i)
   unfolding variable last programIn
-  var-is = M .var ∙ ap (λ k. cond (again q i) k (suc (getD q i 0))) (let f = T .next in let g : suc fresh ≡ t .atoms + suc e = omega arith in g)
+  var-is = M .var ∙ ap (λ k. cond (again q i) k (suc (getD q i 0))) (let f = T .next in let g : suc highest ≡ t .atoms + suc e = omega arith in g)
 
   var-low : variable (programIn t) e (getD q i 0) (again q i) ≤ n + extraOf q i e
   unfolding variable last programIn
@@ -137,7 +137,7 @@ module _ (t : ProgramTable) (names sets q : List ℕ) (R : Ready t names sets q)
       both true = omega arith
       both false = let l = a-low in omega arith
 
-  pub tracks-turn : Tracks n (extraOf q i e) (copyOf t q i e past ∷ past) (set table (c .atom) (c .var)) (c .fresh)
+  pub tracks-turn : Tracks n (extraOf q i e) (copyOf t q i e past ∷ past) (set table (c .atom) (c .var)) (c .highest)
   unfolding latest
   tracks-turn =
       record {
@@ -149,14 +149,14 @@ module _ (t : ProgramTable) (names sets q : List ℕ) (R : Ready t names sets q)
             (λ y. rw (y, eq-eqb (getD q i 0) b (sym (eqb-true b (getD q i 0) y))) var-is)
             (λ z. rw (z, ne-eqb (getD q i 0) b (λ g. eqb-false b (getD q i 0) z (sym g))) (T .is b l)));
         low = λ b. by-bool (eqb (getD q i 0) b) (λ y. rw y var-low) (λ z. rw z (let l = T .low b in let g = grows (again q i) in omega arith));
-        next = M .fresh ∙ counted (again q i);
+        next = M .highest ∙ counted (again q i);
       }
     where
       grows : (more : Bool) → e ≤ cond more (suc e) e
       grows true = omega arith
       grows false = omega arith
 
-      counted : (more : Bool) → cond more (suc fresh) fresh ≡ t .atoms + cond more (suc e) e
+      counted : (more : Bool) → cond more (suc highest) highest ≡ t .atoms + cond more (suc e) e
       counted true = let f = T .next in omega arith
       counted false = T .next
 

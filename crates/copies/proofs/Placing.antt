@@ -126,12 +126,12 @@ module _ (q : List ℕ) (i : ℕ) (names sets places : List ℕ) (so-far a compo
     test : not (eqb place i) ≡ again q i
     test = ap (λ x. not (eqb x i)) (p ∙ ap (λ x. getD places x 0) (A .is)) ∙ K .more i (E .from) (E .within)
 
-    pub made-last : place ≡ i → Made q i names sets so-far (record { atom = a; component = component; var = a + 1; fresh = so-far })
+    pub made-last : place ≡ i → Made q i names sets so-far (record { atom = a; component = component; var = a + 1; highest = so-far })
     made-last e =
         let none : again q i ≡ false = sym test ∙ ap not (eq-eqb place i e) in
-        record { atom = A .is; low = copy-atom; component = C; var = rw none (add-one a ∙ ap suc (A .is)); fresh = rw none refl }
+        record { atom = A .is; low = copy-atom; component = C; var = rw none (add-one a ∙ ap suc (A .is)); highest = rw none refl }
 
-    pub made-earlier : (place ≡ i → ⊥) → Made q i names sets so-far (record { atom = a; component = component; var = so-far + 1; fresh = so-far + 1 })
+    pub made-earlier : (place ≡ i → ⊥) → Made q i names sets so-far (record { atom = a; component = component; var = so-far + 1; highest = so-far + 1 })
     made-earlier ne =
         let some : again q i ≡ true = sym test ∙ ap not (ne-eqb place i ne) in
-        record { atom = A .is; low = copy-atom; component = C; var = rw some (add-one so-far); fresh = rw some (add-one so-far) }
+        record { atom = A .is; low = copy-atom; component = C; var = rw some (add-one so-far); highest = rw some (add-one so-far) }

@@ -98,7 +98,7 @@ pub struct EntryCopy {
     pub atom: usize,
     pub component: u64,
     pub var: u32,
-    pub fresh: u32,
+    pub highest: u32,
 }
 
 // The copy of the entry at an index.
@@ -108,10 +108,10 @@ pub fn copy_at(
     names: &[u8; 64],
     sets: &[u64; 64],
     places: &[u16; 64],
-    fresh: u32,
+    highest: u32,
 ) -> EntryCopy
-    requires { ⌜ EntryAt (now names) (now q) i × LastPlaces (now q) (now places) × (fresh < 4294967295) ⌝ }
-    ensures { λ r. ⌜ Made (now (q .entry)) i (now (names .entry)) (now (sets .entry)) fresh r ⌝ }
+    requires { ⌜ EntryAt (now names) (now q) i × LastPlaces (now q) (now places) × (highest < 4294967295) ⌝ }
+    ensures { λ r. ⌜ Made (now (q .entry)) i (now (names .entry)) (now (sets .entry)) highest r ⌝ }
 {
     let atom = byte_at(q, i);
     let component = component_of(names, sets, atom);
@@ -120,14 +120,14 @@ pub fn copy_at(
             atom,
             component,
             var: (atom + 1) as u32,
-            fresh,
+            highest,
         };
     }
     EntryCopy {
         atom,
         component,
-        var: fresh + 1,
-        fresh: fresh + 1,
+        var: highest + 1,
+        highest: highest + 1,
     }
 }
 

@@ -1,8 +1,8 @@
 // A sheet on standard input, one line out: the number of stable models and the verdict, or the refusal.
-use core::CountAnswer;
-use core::Verdict;
 use io::print_decimal;
 use io::write_all;
+use operations::CountAnswer;
+use operations::Verdict;
 
 fn print_verdict(v: Verdict) -> bool {
     match v {

@@ -1,33 +1,21 @@
--- The hub's limits suit the operations; the demands of the hub, and that it answers as the office does.
+-- The demands of the hub, and what else is proved of its operations.
 use mathlib.Core.List.{List}
-use mathlib.Core.Path.{_≡_, refl}
-use Prim.Native.Nat.{ℕ, _^_, _≤_}
+use Prim.Native.Nat.{ℕ, _≤_}
 use lib.Dec.{lit<, lit≤}
 use lib.ListN.{length}
-use Rattle.sheet.specs.declared.Limits.{Limits}
-use Rattle.core.specs.inner.Asked.{Supported}
-use Rattle.core.specs.Outputs.{missingOutput}
-use Rattle.core.specs.Questions.{readQuestions}
-use Rattle.demands.specs.Calls.{Promised}
-use Rattle.demands.specs.Demands.{Demand1, Demand2, Demand3, TextForSolvers, MissingChains, DefaultAccepted}
-use Rattle.demands.specs.Services.{OneFormat, Narrower, SameAnswers, SameBodies}
-use Rattle.demands.specs.Lengthened.{LengthenedSequences}
-use Rattle.demands.specs.Claims.{Shorter}
-use Rattle.demands.proofs.Calls.{demand-1}
-use Rattle.demands.proofs.Default.{default-accepted}
-use Rattle.demands.proofs.Demands.{demand-2, demand-3, text-for-solvers, missing-chains}
-use Rattle.demands.proofs.Services.{one-service, same-bodies}
-use Rattle.demands.proofs.Lengthened.{lengthened-sequences}
-use Rattle.demands.proofs.Claims.{outputs-shorten, missing-fits}
-use Rattle.office.specs.Office.{office}
+use Rattle.operations.specs.Outputs.{missingOutput}
+use Rattle.sheet.specs.Questions.{AllYes}
+use Rattle.operations.specs.Questions.{sheetQuestions}
+use Rattle.operations.specs.Calls.{Promised}
+use Rattle.guarantees.specs.Demands.{Demand1, Demand2, Demand3, TextForSolvers, MissingChains, DefaultAccepted}
+use Rattle.guarantees.specs.Lengthened.{LengthenedSequences}
+use Rattle.guarantees.specs.Claims.{Shorter}
+use Rattle.guarantees.proofs.Calls.{demand-1}
+use Rattle.guarantees.proofs.Default.{default-accepted}
+use Rattle.guarantees.proofs.Demands.{demand-2, demand-3, text-for-solvers, missing-chains}
+use Rattle.guarantees.proofs.Lengthened.{lengthened-sequences}
+use Rattle.guarantees.proofs.Claims.{outputs-shorten, missing-fits}
 use Rattle.hub.specs.Hub.{hub}
-
-pub supported : (L : Limits) → L ≡ hub → Supported L
-supported L e = rw e (record { atoms = lit≤ tt; records = lit≤ tt; component = lit≤ tt; entries = lit≤ tt })
-
--- A table of 16 rows has one for each set of a component's atoms.
-pub table-room : (L : Limits) (rows : ℕ) → L ≡ hub → rows ≡ 16 → 2 ^ L .taken .component ≤ rows
-table-room L rows e f = rw (e, f) (lit≤ tt)
 
 -- What the hub's default sequence writes is accepted by questions 8, 16 and 9.
 pub hub-default-accepted : DefaultAccepted hub
@@ -60,20 +48,5 @@ pub hub-shorter : Shorter (Promised hub)
 hub-shorter = outputs-shorten hub (Promised hub) hub-demand-1
 
 -- No missing chain of the hub has more atoms than four.
-pub hub-missing-fits : (s q : List ℕ) → readQuestions hub s ≡ 0 → length (missingOutput s q) ≤ 4
+pub hub-missing-fits : (s q : List ℕ) → AllYes (sheetQuestions hub s) → length (missingOutput s q) ≤ 4
 hub-missing-fits = missing-fits hub
-
--- Hub and office are services of one format, and the hub takes no more than the office.
-pub hub-format : OneFormat hub office
-hub-format = record { atoms = refl; records = refl; component = refl; entries = refl }
-
-pub hub-narrower : Narrower hub office
-hub-narrower = record { atoms = lit≤ tt; component = lit≤ tt; entries = lit≤ tt }
-
--- A sheet and a sequence that pass the hub's 15 and 16 are answered alike in both, and so is every other refusal.
-pub hub-same-answers : SameAnswers hub (Promised hub) (Promised office)
-hub-same-answers = one-service hub office hub-format hub-narrower (Promised hub) (Promised office) hub-demand-1 (demand-1 office)
-
--- And so are the places of bodies and their slices.
-pub hub-same-bodies : SameBodies hub office
-hub-same-bodies = same-bodies hub office hub-format hub-narrower

@@ -1,36 +1,35 @@
 -- The three demands of what C sees, for any limits.
-use mathlib.Core.List.{List, [], _∷_}
+use mathlib.Core.List.{List, _++_}
 use mathlib.Core.Path.{_≡_, refl, sym, _∙_, ap, ap₂}
-use Prim.Native.Nat.{ℕ, _-_}
+use Prim.Native.Nat.{ℕ}
 use lib.Dec.{eqb}
-use lib.ListN.{take}
+use lib.ListN.{length, take}
+use lib.Seq.{take-append-seam}
 use Rattle.lists.proofs.Bools.{by-bool}
 use Rattle.sheet.specs.declared.Limits.{Limits}
-use Rattle.core.specs.Outcome.{Outcome, outcome}
-use Rattle.core.specs.Outputs.{clauseNumbers, bodyStart, bodyEnd, bodyPositives}
-use Rattle.core.specs.Promises.{readOutcome, bodyOutcome, componentsOutcome, defaultOutcome, lparseOutcome, testOutcome, missingOutcome, unfoldedOutcome, clausesOutcome, countOutcome}
-use Rattle.demands.specs.Calls.{Call, Buffer, values}
-use Rattle.demands.specs.Calls as call
-use Rattle.demands.specs.Demands.{Demand1, Demand2, Demand3, TextForSolvers, MissingChains}
-use Rattle.demands.specs.Services.{OneFormat, Narrower}
-use Rattle.demands.specs.Lengthened.{LengthenedSequences}
-use Rattle.demands.specs.Claims.{Shorter}
-use Rattle.demands.proofs.Calls.{Follows, follows-decided, read-follows, count-follows, body-follows, test-follows}
-use Rattle.demands.proofs.Calls.{components-follows, default-follows, lparse-follows, missing-follows, unfolded-follows, clauses-follows}
-use Rattle.demands.proofs.Demands.{demand-2-of, demand-3-of, solvers-of, missing-chains-of}
-use Rattle.demands.proofs.Services.{body-agree}
-use Rattle.demands.proofs.Lengthened.{lengthened-of}
-use Rattle.demands.proofs.Claims.{outputs-shorten}
-use Rattle.interface.specs.Exported.{status, stored, Stores, shownOutcome}
-use Rattle.interface.specs.Seen.{Returned, told, Seen, NumbersKept, SameShown}
+use Rattle.operations.specs.Outcome.{Outcome, outcome}
+use Rattle.operations.specs.Calls.{Call, Buffer, describe, outcomeOf, Promised}
+use Rattle.operations.specs.Calls as call
+use Rattle.operations.specs.inner.Refusals.{callRefusal}
+use Rattle.guarantees.specs.Demands.{Demand1, Demand2, Demand3, TextForSolvers, MissingChains}
+use Rattle.guarantees.specs.Services.{OneFormat, Narrower}
+use Rattle.guarantees.specs.Lengthened.{LengthenedSequences}
+use Rattle.guarantees.specs.Claims.{Shorter}
+use Rattle.guarantees.proofs.Calls.{demand-1}
+use Rattle.guarantees.proofs.Demands.{demand-2-of, demand-3-of, solvers-of, missing-chains-of}
+use Rattle.guarantees.proofs.Services.{body-agree}
+use Rattle.guarantees.proofs.Lengthened.{lengthened-of}
+use Rattle.guarantees.proofs.Claims.{outputs-shorten}
+use Rattle.interface.specs.Exported.{status, stored, Stores}
+use Rattle.interface.specs.Seen.{placeNumbers, told, Seen, NumbersKept, SameShown}
 
-module _ (asked : ℕ) (vs : List ℕ) (r : ℕ) (before after : List ℕ) (E : Stores (outcome asked vs) r before after) where
-  -- The number returned and the first k numbers stored tell the outcome with so many values.
-  stores-front : (k : ℕ) → outcome r (take k after) ≡ outcome asked (take k vs)
+module _ (asked : ℕ) (vs more : List ℕ) (r : ℕ) (before after : List ℕ) (E : Stores (outcome asked (vs ++ more)) r before after) where
+  -- The number returned and the first of the numbers stored tell the outcome.
+  stores-front : outcome r (take (length vs) after) ≡ outcome asked vs
   unfolding outcome status stored
-  stores-front k =
-      ap₂ (λ r after. outcome r (take k after)) (E .returns) (E .numbers)
-      ∙ by-bool (eqb asked 0) (λ t. rw t refl) (λ f. rw f (rw f refl))
+  stores-front =
+      ap₂ (λ r after. outcome r (take (length vs) after)) (E .returns) (E .numbers)
+      ∙ by-bool (eqb asked 0) (λ t. rw (t, take-append-seam vs more) refl) (λ f. rw f (rw f refl))
 
   stores-kept : (r ≡ 0 → ⊥) → after ≡ before
   unfolding outcome status stored
@@ -38,29 +37,14 @@ module _ (asked : ℕ) (vs : List ℕ) (r : ℕ) (before after : List ℕ) (E : 
       by-bool (eqb asked 0) (λ t. absurd (ne (E .returns ∙ rw t refl))) (λ f. E .numbers ∙ rw f refl)
 
 -- Each function's outcome and buffer are those of its operation.
-seen-follows : (L : Limits) (c : Call) (o : Outcome) (b : Buffer) → Seen L c o b → Follows L c o b
-unfolding Seen Returned told values clauseNumbers readOutcome bodyOutcome shownOutcome componentsOutcome defaultOutcome
-    lparseOutcome testOutcome missingOutcome unfoldedOutcome clausesOutcome countOutcome
-seen-follows L (call.read s) o b (r, before, after, (E, n), e) = read-follows L s o b n (e ∙ stores-front _ _ r before after E 2)
-seen-follows L (call.body i s) o b (r, before, after, (E, n), e) = body-follows L s o b n i (e ∙ stores-front _ _ r before after E 1)
-seen-follows L (call.components s old) o b (r, before, after, (new, E, n), e) =
-    components-follows L s o b old new n (e ∙ stores-front _ _ r before after (E .stores) 1) (E .leaves)
-seen-follows L (call.default s old) o b (r, before, after, (new, E, n), e) =
-    default-follows L s o b old new n (e ∙ stores-front _ _ r before after (E .stores) 1) (E .leaves)
-seen-follows L (call.lparse s old) o b (r, before, after, (new, E, n), e) =
-    lparse-follows L s o b old new n (e ∙ stores-front _ _ r before after (E .stores) 1) (E .leaves)
-seen-follows L (call.test s q) o b (r, before, after, (E, n), e) = test-follows L s o b n q (e ∙ stores-front _ _ r before after E 0)
-seen-follows L (call.missing s q old) o b (r, before, after, (new, E, n), e) =
-    missing-follows L s o b old new n q (e ∙ stores-front _ _ r before after (E .stores) 1) (E .leaves)
-seen-follows L (call.unfolded s q old) o b (r, before, after, (new, E, n), e) =
-    unfolded-follows L s o b old new n q (e ∙ stores-front _ _ r before after (E .stores) 1) (E .leaves)
-seen-follows L (call.clauses s q old) o b (r, before, after, (new, E, n), e) =
-    clauses-follows L s o b q old new n (e ∙ stores-front _ _ r before after (E .stores) 3) (E .leaves)
-seen-follows L (call.count s) o b (r, before, after, (E, n), e) = count-follows L s o b n (e ∙ stores-front _ _ r before after E 2)
+seen-promised : (L : Limits) (c : Call) (o : Outcome) (b : Buffer) → Seen L c o b → Promised L c o b
+unfolding Seen told outcomeOf
+seen-promised L c o b (r, before, after, R, e) =
+    record { says = e ∙ stores-front (callRefusal L c) (describe c .values) (placeNumbers c) r before after (R .stores); leaves = R .leaves }
 
 -- The demands of the C interface.
 pub seen-demand-1 : (L : Limits) → Demand1 L (Seen L)
-seen-demand-1 L c o b S = follows-decided L c o b (seen-follows L c o b S)
+seen-demand-1 L c o b S = demand-1 L c o b (seen-promised L c o b S)
 
 pub seen-demand-2 : (L : Limits) → Demand2 L (Seen L)
 seen-demand-2 L = demand-2-of L (Seen L) (seen-demand-1 L)
@@ -85,22 +69,13 @@ pub seen-shorter : (L : Limits) → Shorter (Seen L)
 seen-shorter L = outputs-shorten L (Seen L) (seen-demand-1 L)
 
 pub numbers-kept : (L : Limits) → NumbersKept L
-unfolding Returned readOutcome shownOutcome componentsOutcome defaultOutcome lparseOutcome testOutcome missingOutcome unfoldedOutcome clausesOutcome countOutcome
-numbers-kept L (call.read s) r before after b (E, n) = stores-kept _ _ r before after E
-numbers-kept L (call.body i s) r before after b (E, n) = stores-kept _ _ r before after E
-numbers-kept L (call.components s old) r before after b (new, E, n) = stores-kept _ _ r before after (E .stores)
-numbers-kept L (call.default s old) r before after b (new, E, n) = stores-kept _ _ r before after (E .stores)
-numbers-kept L (call.lparse s old) r before after b (new, E, n) = stores-kept _ _ r before after (E .stores)
-numbers-kept L (call.test s q) r before after b (E, n) = stores-kept _ _ r before after E
-numbers-kept L (call.missing s q old) r before after b (new, E, n) = stores-kept _ _ r before after (E .stores)
-numbers-kept L (call.unfolded s q old) r before after b (new, E, n) = stores-kept _ _ r before after (E .stores)
-numbers-kept L (call.clauses s q old) r before after b (new, E, n) = stores-kept _ _ r before after (E .stores)
-numbers-kept L (call.count s) r before after b (E, n) = stores-kept _ _ r before after E
+numbers-kept L c r before after b R = stores-kept (callRefusal L c) (describe c .values) (placeNumbers c) r before after (R .stores)
 
 -- Bodies that C is shown.
 pub same-shown : (L M : Limits) → OneFormat L M → Narrower L M → SameShown L M
-unfolding Returned shownOutcome
-same-shown L M F N i s r t before after later b d (P, m) (Q, n) ne =
+same-shown L M F N i s r t before after later b d P Q ne =
     let same = sym (body-agree L M F N i s ne) in
-    let values = bodyPositives i s ∷ bodyStart i s ∷ (bodyEnd i s - bodyStart i s) ∷ [] in
-    (Q .returns ∙ (ap (λ k. status (outcome k values)) same ∙ sym (P .returns)), Q .numbers ∙ (ap (λ k. stored (outcome k values) before) same ∙ sym (P .numbers)))
+    let numbers = describe (call.body i s) .values ++ placeNumbers (call.body i s) in (
+      Q .stores .returns ∙ (ap (λ k. status (outcome k numbers)) same ∙ sym (P .stores .returns)),
+      Q .stores .numbers ∙ (ap (λ k. stored (outcome k numbers) before) same ∙ sym (P .stores .numbers)),
+    )

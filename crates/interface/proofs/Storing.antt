@@ -2,20 +2,20 @@
 use mathlib.Core.List.{List, [], _∷_}
 use mathlib.Core.Path.{_≡_, refl, sym, _∙_, ap}
 use Prim.Native.Nat.{ℕ, _-_}
-use Rattle.core.specs.Outcome.{Outcome, refused, answered, code, fromVerdict, fromRead, fromWrite, fromTest, fromClauses, fromCount}
-use Rattle.core.specs.declared.BodyPlace.{BodyPlace}
-use Rattle.core.specs.declared.ClausesAnswer.{ClausesAnswer}
-use Rattle.core.specs.declared.ClausesAnswer.the-variants as clauses
-use Rattle.core.specs.declared.CountAnswer.{CountAnswer}
-use Rattle.core.specs.declared.CountAnswer.the-variants as counted
-use Rattle.core.specs.declared.Verdict.{Verdict}
-use Rattle.core.specs.declared.ReadAnswer.{ReadAnswer}
-use Rattle.core.specs.declared.ReadAnswer.the-variants as read
-use Rattle.core.specs.declared.TestAnswer.{TestAnswer}
-use Rattle.core.specs.declared.TestAnswer.the-variants as test
-use Rattle.core.specs.declared.WriteAnswer.{WriteAnswer}
-use Rattle.core.specs.declared.WriteAnswer.the-variants as write
-use Rattle.core.proofs.Outcomes.{outcome-refused, outcome-answered}
+use Rattle.operations.specs.Outcome.{Outcome, refused, answered, code, fromVerdict, fromRead, fromWrite, fromTest, fromClauses, fromCount}
+use Rattle.operations.specs.declared.BodyPlace.{BodyPlace}
+use Rattle.operations.specs.declared.ClausesAnswer.{ClausesAnswer}
+use Rattle.operations.specs.declared.ClausesAnswer.the-variants as clauses
+use Rattle.operations.specs.declared.CountAnswer.{CountAnswer}
+use Rattle.operations.specs.declared.CountAnswer.the-variants as counted
+use Rattle.operations.specs.declared.Verdict.{Verdict}
+use Rattle.operations.specs.declared.ReadAnswer.{ReadAnswer}
+use Rattle.operations.specs.declared.ReadAnswer.the-variants as read
+use Rattle.operations.specs.declared.TestAnswer.{TestAnswer}
+use Rattle.operations.specs.declared.TestAnswer.the-variants as test
+use Rattle.operations.specs.declared.WriteAnswer.{WriteAnswer}
+use Rattle.operations.specs.declared.WriteAnswer.the-variants as write
+use Rattle.operations.proofs.Promises.{outcome-refused, outcome-answered}
 use Rattle.interface.specs.Exported.{status, stored, Stores, shown}
 
 -- A refusal stores nothing, and a success its values.

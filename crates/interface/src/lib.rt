@@ -1,15 +1,15 @@
 // What a C interface does with an answer: it stores its numbers and returns 0, or it returns the number of the refusal.
-use core::BodyPlace;
-use core::ClausesAnswer;
-use core::CountAnswer;
-use core::ReadAnswer;
-use core::TestAnswer;
-use core::Verdict;
-use core::WriteAnswer;
+use operations::BodyPlace;
+use operations::ClausesAnswer;
+use operations::CountAnswer;
+use operations::ReadAnswer;
+use operations::TestAnswer;
+use operations::Verdict;
+use operations::WriteAnswer;
 ghost use mathlib.Core.Path.{_≡_};
 ghost use mathlib.Core.List.{_∷_, []};
 ghost use Prim.Native.Nat.{_≤_};
-ghost use Rattle.core.specs.Outcome.{code, fromVerdict, fromRead, fromWrite, fromTest, fromClauses, fromCount};
+ghost use Rattle.operations.specs.Outcome.{code, fromVerdict, fromRead, fromWrite, fromTest, fromClauses, fromCount};
 ghost use Rattle.interface.specs.Exported.{Stores, shown};
 
 // Of reading: the numbers of atoms and records.

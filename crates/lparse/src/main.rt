@@ -1,5 +1,5 @@
 // A sheet on standard input; out comes its text for the usual solvers, or the refusal.
-use core::WriteAnswer;
+use operations::WriteAnswer;
 use text::put_refused;
 ghost use mathlib.Core.Path.{_≡_};
 ghost use lib.ListN.{length};

@@ -1,75 +1,29 @@
 -- Laws of the functions that extend a chain.
 use mathlib.Core.Bool.{false, not}
-use mathlib.Core.List.{List, [], _∷_, Sublistᴰ, Sublistᴰ·cons, Sublistᴰ·cons-cons, Sublistᴰ·cases-cons-cons, Sublistᴰ·eq-nil, cons≢nil}
-use mathlib.Core.Logic.{_↔_, ⊎-elim}
-use mathlib.Core.Path.{_≡_, refl, sym, _∙_, ap, subst}
-use Prim.Native.Nat.{ℕ, suc, _+_, _-_, _≤_, _<_}
+use mathlib.Core.List.{List, [], _∷_}
+use mathlib.Core.Path.{_≡_, refl, sym, _∙_, subst}
+use Prim.Native.Nat.{ℕ, _+_, _-_, _≤_, _<_}
 use native.Mathlib.Omega.{arith}
 use borrow.Author.Tests.{eq-eqb, ltb-true}
 use lib.Dec.{eqb, ltb}
 use lib.ListN.{length, getD, drop}
-use lib.Seq.{drop-cons, drop-length}
 use Rattle.lists.specs.Lists.{range}
 use Rattle.lists.proofs.Bools.{true-false, is-false, and-left, and-right, not-elim}
 use Rattle.lists.proofs.Members.{range-in}
 use Rattle.lists.proofs.Nodup.{nodup-range, filter-lt}
-use Rattle.lists.proofs.Sublists.{sublist-tail, sublist-mem}
 use Rattle.unfolding.proofs.Chains.{chain-one}
 use Rattle.bits.specs.inner.Sets.{has, Without, Both}
 use Rattle.bits.specs.inner.Listed.{RisesTo}
 use Rattle.bits.specs.inner.Visited.{listed, Lowest}
-use Rattle.chains.specs.inner.Subsets.{AtPlaces, Filled, Followers}
+use Rattle.chain_rows.specs.inner.Subsets.{AtPlaces, Followers}
+use Rattle.chain_table.specs.inner.Filled.{Filled}
 use Rattle.writer.specs.inner.Wrote.{Wrote}
 use Rattle.writer.proofs.Writing.{wrote-append, wrote-length}
+use Rattle.missing_places.specs.inner.Lacking.{Lacking}
+use Rattle.positions.specs.inner.Positions.{Behind}
 use Rattle.missing.specs.declared.Extension.{Extension}
-use Rattle.missing.specs.inner.Lacking.{Lacking}
-use Rattle.missing.specs.inner.Extending.{LacksFrom, FirstMissing, Position, Behind, Fits, SomeLacks, Next, ChainPut}
-use Rattle.missing.proofs.Positions.{position-next}
+use Rattle.missing.specs.inner.Extending.{LacksFrom, FirstMissing, Fits, SomeLacks, Next, ChainPut}
 use Rattle.missing.proofs.Extensions.{first-last, some-place, next-lacks, next-first}
-
--- What starts with a is found from position i on just when it is from an earlier one.
-pub record Passing (q : List ℕ) (from a i : ℕ) : Type 0 where
-  pub position : Position q i
-  pub same : (v : List ℕ) → Sublistᴰ (a ∷ v) (drop from q) ↔ Sublistᴰ (a ∷ v) (drop i q)
-
-module _ (q : List ℕ) (from a : ℕ) where
-  pub passing-start : Position q from → Passing q from a from
-  passing-start P = record { position = P; same = λ v. (λ h. h, λ h. h) }
-
-  module _ (i x : ℕ) (R : Passing q from a i) (l : i < length q) (is : x ≡ getD q i 0) where
-    entry : drop i q ≡ x ∷ drop (i + 1) q
-    entry = drop-cons q i 0 l ∙ (ap (λ y. y ∷ drop (suc i) q) (sym is) ∙ ap (λ j. x ∷ drop j q) (let e : suc i ≡ i + 1 = omega arith in e))
-
-    next : Position q (i + 1)
-    next = position-next q i (R .position) l
-
-    pub passing-turn : (x ≡ a → ⊥) → Passing q from a (i + 1)
-    passing-turn ne =
-        record {
-          position = next;
-          same = λ v. (
-            λ f. ⊎-elim (λ g. g) (λ g. absurd (ne (sym (g .0)))) (Sublistᴰ·cases-cons-cons (subst (Sublistᴰ (a ∷ v)) entry (R .same v .0 f))),
-            λ f. R .same v .1 (subst (Sublistᴰ (a ∷ v)) (sym entry) (Sublistᴰ·cons f)),
-          );
-        }
-
-    pub passing-found : x ≡ a → Behind q from a (i + 1)
-    passing-found e =
-        record {
-          position = next;
-          onward = λ v f. ⊎-elim (λ g. sublist-tail g) (λ g. g .1) (Sublistᴰ·cases-cons-cons (subst (Sublistᴰ (a ∷ v)) entry (R .same v .0 f)));
-          back = λ v m f. R .same v .1 (subst (Sublistᴰ (a ∷ v)) (sym entry) (Sublistᴰ·cons-cons (sym e) f));
-        }
-
-  pub passing-end : (i : ℕ) → Passing q from a i → length q ≤ i → Behind q from a i
-  passing-end i R l =
-      let h = R .position .inside in
-      let none : drop i q ≡ [] = ap (λ j. drop j q) (let e : i ≡ length q = omega arith in e) ∙ drop-length q in
-      record {
-        position = R .position;
-        onward = λ v f. absurd (cons≢nil (Sublistᴰ·eq-nil (subst (Sublistᴰ (a ∷ v)) none (R .same v .0 f))));
-        back = λ v m f. absurd (cons≢nil (Sublistᴰ·eq-nil (subst (Sublistᴰ (a ∷ [])) none (R .same [] .0 (sublist-mem m)))));
-      }
 
 -- The extension behind L, from the parts that the code computes.
 module _ (rows atoms : List ℕ) (k : ℕ) (few : k ≤ 10) (q : List ℕ) (L : Extension) (F : Fits k q L) (more : 1 < L .left) (x : ℕ) (is : x ≡ getD atoms (L .place) 0) (from : ℕ) (B : Behind q (L .from) x from)
@@ -86,7 +40,7 @@ module _ (rows atoms : List ℕ) (k : ℕ) (few : k ≤ 10) (q : List ℕ) (L : 
       gone : has less (L .place) ≡ false
       gone = is-false (λ t. true-false (eq-eqb (L .place) (L .place) refl) (not-elim (and-right (has (L .unused) (L .place)) (not (eqb (L .place) (L .place))) (sym (W .members (L .place)) ∙ t))))
 
-  module _ (sets : List ℕ) (T : Filled rows atoms k (drop from q) sets) (after r both : ℕ) (G : Followers rows atoms k x after) (N : Lacking sets less (L .left - 1) r) (M : Both after r both) where
+  module _ (table : List ℕ) (T : Filled rows atoms k (drop from q) table) (after r both : ℕ) (G : Followers rows atoms k x after) (N : Lacking table less (L .left - 1) r) (M : Both after r both) where
     B′ : Behind q (L .from) (getD atoms (L .place) 0) from
     B′ = subst (λ a. Behind q (L .from) a from) is B
 
@@ -97,7 +51,7 @@ module _ (rows atoms : List ℕ) (k : ℕ) (few : k ≤ 10) (q : List ℕ) (L : 
     extension-some S =
         let P = S .program in
         let K = S .setting in
-        some-place P rows atoms k K few q L F more (S .lacks) from B′ less W sets (T .table P K) after r both G′ N M
+        some-place P rows atoms k K few q L F more (S .lacks) from B′ less W table (T .is P K) after r both G′ N M
 
     pub extension-next : RisesTo atoms k → (d : ℕ) → Lowest both d → Next rows atoms k q L (record { from = from; unused = less; place = d; left = L .left - 1 })
     extension-next R d A =
@@ -114,8 +68,8 @@ module _ (rows atoms : List ℕ) (k : ℕ) (few : k ≤ 10) (q : List ℕ) (L : 
               };
           fewer = fewer;
           left = omega arith;
-          lacks = λ P K D. next-lacks P rows atoms k K few q L F more D from B′ less W sets (T .table P K) after r both G′ N M d A;
-          first = λ P K D. next-first P rows atoms k K few q L F more D from B′ less W sets (T .table P K) after r both G′ N M d A R;
+          lacks = λ P K D. next-lacks P rows atoms k K few q L F more D from B′ less W table (T .is P K) after r both G′ N M d A;
+          first = λ P K D. next-first P rows atoms k K few q L F more D from B′ less W table (T .is P K) after r both G′ N M d A R;
         }
 
 -- The last atom, and one with others behind it.

@@ -22,12 +22,13 @@ use Rattle.bits.specs.inner.Sets.{has, Without, Both}
 use Rattle.bits.specs.inner.Listed.{RisesTo}
 use Rattle.bits.specs.inner.Visited.{Lowest}
 use Rattle.bits.proofs.Digits.{zero-has}
-use Rattle.chains.specs.inner.Subsets.{Setting, AtPlaces, SubsetTable, Followers}
-use Rattle.chains.proofs.Turning.{follows, followed, fewer-atoms, other-atoms}
+use Rattle.chain_rows.specs.inner.Subsets.{Setting, AtPlaces, SubsetTable, Followers}
+use Rattle.chain_rows.proofs.Turning.{follows, followed, fewer-atoms, other-atoms}
+use Rattle.missing_places.specs.inner.Lacking.{Lacking}
+use Rattle.positions.specs.inner.Positions.{Behind}
+use Rattle.starts.proofs.Sets.{found-unless, lacking-fails}
 use Rattle.missing.specs.declared.Extension.{Extension}
-use Rattle.missing.specs.inner.Lacking.{Lacking}
-use Rattle.missing.specs.inner.Extending.{Within, LacksFrom, FirstMissing, Behind, Fits, LacksAt, FirstAt}
-use Rattle.missing.proofs.Sets.{found-unless, lacking-fails}
+use Rattle.missing.specs.inner.Extending.{Within, LacksFrom, FirstMissing, Fits, LacksAt, FirstAt}
 
 -- The last atom.
 pub first-last : (P : Program) (s : List ℕ) (X : ℕ → Type 0) (a : ℕ) → Chain P (a ∷ []) → X a → LacksFrom P s X a 1 → FirstMissing P s X a 1 []
@@ -132,12 +133,12 @@ module _ (P : Program) (rows atoms : List ℕ) (k : ℕ) (K : Setting P rows ato
     shorter p l e j h w I = B .onward (atom p ∷ w) (D .shorter (suc j) (omega arith) (atom p ∷ w) (longer p l e j (suc j) w refl I))
 
     -- The places that follow and from which a chain is lacking.
-    module _ (sets : List ℕ) (table : SubsetTable P atoms k sets t) (after r both : ℕ) (G : Followers rows atoms k x after) (N : Lacking sets less left r) (M : Both after r both) where
+    module _ (table : List ℕ) (filled : SubsetTable P atoms k table t) (after r both : ℕ) (G : Followers rows atoms k x after) (N : Lacking table less left r) (M : Both after r both) where
       found-tail : (w : List ℕ) (T : Tail w) → has both (T .at) ≡ false → Sublistᴰ (x ∷ w) s
       found-tail w T f =
           let I = T .within in
           let goes = follows P rows atoms k K x after G (T .at) (T .under) (T .goes) in
-          let behind = found-unless P rows atoms k K few sets t table less left (T .at) less-small (T .under)
+          let behind = found-unless P rows atoms k K few table t filled less left (T .at) less-small (T .under)
           (λ S l L. true-false (M .members (T .at) ∙ and-intro goes (N .back (T .at) S l L)) f) (T .rest) (I .chain) (I .inside) (let e = I .long in omega arith) in
           subst (λ v. Sublistᴰ (x ∷ v) s) (sym (T .is)) (B .back (atom (T .at) ∷ T .rest) x-there behind)
 
@@ -156,7 +157,7 @@ module _ (P : Program) (rows atoms : List ℕ) (k : ℕ) (K : Setting P rows ato
               shorter = shorter d (goes .0) (goes .1);
               lacks = λ all.
                   let u = N .out d (and-right (has after d) (has r d) (sym (M .members d) ∙ A .is)) in
-                  lacking-fails P rows atoms k K few sets t table less left d less-small (goes .0) (u .0) (u .1) (u .2) (λ w C i l.
+                  lacking-fails P rows atoms k K few table t filled less left d less-small (goes .0) (u .0) (u .1) (u .2) (λ w C i l.
                   by-bool (ltb (length (atom d ∷ w)) left)
                   (λ h. shorter d (goes .0) (goes .1) (length (atom d ∷ w)) (ltb-true (length (atom d ∷ w)) left h) w (record { chain = C; inside = i; long = refl }))
                   (λ h. let m = ltb-false (length (atom d ∷ w)) left h in all w (record { chain = C; inside = i; long = omega arith })));

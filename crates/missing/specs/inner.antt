@@ -1,4 +1,3 @@
 -- What inner functions promise: no public promise rests on it.
-pub mod Lacking
 pub mod Extending
-pub mod Starts
+pub mod Missing

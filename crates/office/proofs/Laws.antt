@@ -1,32 +1,23 @@
--- The office's limits suit the operations.
+-- The demands of the office, and what else is proved of its operations.
 use mathlib.Core.List.{List}
-use mathlib.Core.Path.{_≡_}
-use Prim.Native.Nat.{ℕ, _^_, _≤_}
+use Prim.Native.Nat.{ℕ, _≤_}
 use lib.Dec.{lit<, lit≤}
 use lib.ListN.{length}
-use Rattle.sheet.specs.declared.Limits.{Limits}
-use Rattle.core.specs.inner.Asked.{Supported}
-use Rattle.core.specs.Outputs.{lparseOutput, missingOutput}
-use Rattle.core.specs.Questions.{readQuestions}
-use Rattle.demands.specs.Calls.{Promised}
-use Rattle.demands.specs.Demands.{Demand1, Demand2, Demand3, TextForSolvers, MissingChains, DefaultAccepted}
-use Rattle.demands.specs.Services.{WholeFormat, NeverTooLarge}
-use Rattle.demands.specs.Lengthened.{LengthenedSequences}
-use Rattle.demands.specs.Claims.{Shorter}
-use Rattle.demands.proofs.Calls.{demand-1}
-use Rattle.demands.proofs.Default.{default-accepted}
-use Rattle.demands.proofs.Demands.{demand-2, demand-3, text-for-solvers, missing-chains}
-use Rattle.demands.proofs.Services.{never-too-large}
-use Rattle.demands.proofs.Lengthened.{lengthened-sequences}
-use Rattle.demands.proofs.Claims.{outputs-shorten, lparse-fits, missing-fits}
+use Rattle.operations.specs.Outputs.{lparseOutput, missingOutput}
+use Rattle.sheet.specs.Questions.{AllYes}
+use Rattle.operations.specs.Questions.{sheetQuestions}
+use Rattle.operations.specs.Calls.{Promised}
+use Rattle.guarantees.specs.Demands.{Demand1, Demand2, Demand3, TextForSolvers, MissingChains, DefaultAccepted}
+use Rattle.guarantees.specs.Services.{WholeFormat, NeverTooLarge}
+use Rattle.guarantees.specs.Lengthened.{LengthenedSequences}
+use Rattle.guarantees.specs.Claims.{Shorter}
+use Rattle.guarantees.proofs.Calls.{demand-1}
+use Rattle.guarantees.proofs.Default.{default-accepted}
+use Rattle.guarantees.proofs.Demands.{demand-2, demand-3, text-for-solvers, missing-chains}
+use Rattle.guarantees.proofs.Services.{never-too-large}
+use Rattle.guarantees.proofs.Lengthened.{lengthened-sequences}
+use Rattle.guarantees.proofs.Claims.{outputs-shorten, lparse-fits, missing-fits}
 use Rattle.office.specs.Office.{office}
-
-pub supported : (L : Limits) → L ≡ office → Supported L
-supported L e = rw e (record { atoms = lit≤ tt; records = lit≤ tt; component = lit≤ tt; entries = lit≤ tt })
-
--- A table of 1,024 rows has one for each set of a component's atoms.
-pub table-room : (L : Limits) (rows : ℕ) → L ≡ office → rows ≡ 1024 → 2 ^ L .taken .component ≤ rows
-table-room L rows e f = rw (e, f) (lit≤ tt)
 
 -- The office takes all that the format allows, so that it never refuses by 15 or by 16.
 pub office-whole : WholeFormat office
@@ -66,9 +57,9 @@ pub office-shorter : Shorter (Promised office)
 office-shorter = outputs-shorten office (Promised office) office-demand-1
 
 -- No lparse text of the office is longer than this.
-pub office-lparse-fits : (s : List ℕ) → readQuestions office s ≡ 0 → length (lparseOutput s) ≤ 49088
+pub office-lparse-fits : (s : List ℕ) → AllYes (sheetQuestions office s) → length (lparseOutput s) ≤ 49088
 office-lparse-fits = lparse-fits office (lit≤ tt) (lit≤ tt)
 
 -- Nor has a missing chain more atoms than ten.
-pub office-missing-fits : (s q : List ℕ) → readQuestions office s ≡ 0 → length (missingOutput s q) ≤ 10
+pub office-missing-fits : (s q : List ℕ) → AllYes (sheetQuestions office s) → length (missingOutput s q) ≤ 10
 office-missing-fits = missing-fits office

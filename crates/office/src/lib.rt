@@ -1,21 +1,24 @@
 // The public operations, with the office's limits. Each takes any bytes and finishes.
-use core::BodyAnswer;
-use core::BodyPlace;
-use core::ClausesAnswer;
-use core::CountAnswer;
-use core::ReadAnswer;
-use core::TestAnswer;
-use core::WriteAnswer;
+use operations::BodyAnswer;
+use operations::BodyPlace;
+use operations::ClausesAnswer;
+use operations::CountAnswer;
+use operations::ReadAnswer;
+use operations::TestAnswer;
+use operations::WriteAnswer;
 use sheet::Limits;
 use sheet::Taken;
 ghost use denote.Ref.{ptr};
 ghost use mathlib.Core.Path.{_≡_};
-ghost use Rattle.core.specs.Promises.{ReadPromise, BodyPromise, SlicePromise, FindPromise, ComponentsPromise, DefaultPromise, LparsePromise};
-ghost use Rattle.core.specs.Promises.{TestPromise, MissingPromise, UnfoldedPromise, ClausesPromise, CountPromise};
+ghost use Rattle.operations.specs.Outcome.{fromRead, fromBody, fromWrite, fromTest, fromClauses, fromCount};
+ghost use Rattle.operations.specs.Calls.{nothing, naturals, integers, Promised};
+ghost use Rattle.operations.specs.Calls as call;
+ghost use Rattle.operations.specs.Bodies.{SlicePromise, FindPromise};
+ghost use Rattle.operations.specs.Requirements.{Supported};
 ghost use Rattle.office.specs.Office.{office};
 
 fn limits() -> Limits
-    ensures { λ r. ⌜ r ≡ office ⌝ }
+    ensures { λ r. ⌜ (r ≡ office) × Supported r ⌝ }
 {
     let taken = Taken {
         atoms: 64,
@@ -33,14 +36,14 @@ fn limits() -> Limits
 
 // Reading: the refusal, or the numbers of atoms and records.
 pub fn read(s: &[u8]) -> ReadAnswer
-    ensures { λ r. ⌜ ReadPromise office (now (s .entry)) r ⌝ }
+    ensures { λ r. ⌜ Promised office (call.read (now (s .entry))) (fromRead r) nothing ⌝ }
 {
     core::read(limits(), s)
 }
 
 // Showing a body: the refusal, or the number of positive atoms.
 pub fn body(s: &[u8], number: usize) -> BodyAnswer
-    ensures { λ r. ⌜ BodyPromise office number (now (s .entry)) r ⌝ }
+    ensures { λ r. ⌜ Promised office (call.body number (now (s .entry))) (fromBody r) nothing ⌝ }
 {
     core::body(limits(), s, number)
 }
@@ -54,21 +57,21 @@ pub fn body_slice(s: &[u8], number: usize) -> &[u8]
 
 // Finding components: for each atom one byte, the smallest atom of its component.
 pub fn components(s: &[u8], out: &mut [u8]) -> WriteAnswer
-    ensures { λ r. ⌜ ComponentsPromise office (now (s .entry)) (now (out .entry)) (now (out .exit)) r ⌝ }
+    ensures { λ r. ⌜ Promised office (call.components (now (s .entry)) (now (out .entry))) (fromWrite r) (naturals (now (out .exit))) ⌝ }
 {
     core::components(limits(), s, out)
 }
 
 // The default sequence, header included.
 pub fn default_sequence(s: &[u8], out: &mut [u8]) -> WriteAnswer
-    ensures { λ r. ⌜ DefaultPromise office (now (s .entry)) (now (out .entry)) (now (out .exit)) r ⌝ }
+    ensures { λ r. ⌜ Promised office (call.default (now (s .entry)) (now (out .entry))) (fromWrite r) (naturals (now (out .exit))) ⌝ }
 {
     core::default_sequence(limits(), s, out)
 }
 
 // Writing lparse text: the refusal, or the number of bytes.
 pub fn lparse(s: &[u8], out: &mut [u8]) -> WriteAnswer
-    ensures { λ r. ⌜ LparsePromise office (now (s .entry)) (now (out .entry)) (now (out .exit)) r ⌝ }
+    ensures { λ r. ⌜ Promised office (call.lparse (now (s .entry)) (now (out .entry))) (fromWrite r) (naturals (now (out .exit))) ⌝ }
 {
     core::lparse(limits(), s, out)
 }
@@ -82,14 +85,14 @@ pub fn find_body(s: &[u8], number: usize) -> BodyPlace
 
 // Counting the stable models: the refusal, or their number and the verdict.
 pub fn count(s: &[u8]) -> CountAnswer
-    ensures { λ r. ⌜ CountPromise office (now (s .entry)) r ⌝ }
+    ensures { λ r. ⌜ Promised office (call.count (now (s .entry))) (fromCount r) nothing ⌝ }
 {
     core::count(limits(), s)
 }
 
 // Testing a sequence: the refusal, or that it passed.
 pub fn test(s: &[u8], q: &[u8]) -> TestAnswer
-    ensures { λ r. ⌜ TestPromise office (now (s .entry)) (now (q .entry)) r ⌝ }
+    ensures { λ r. ⌜ Promised office (call.test (now (s .entry)) (now (q .entry))) (fromTest r) nothing ⌝ }
 {
     let mut table = [0u64; 1024];
     core::test(limits(), s, q, &mut table)
@@ -97,7 +100,7 @@ pub fn test(s: &[u8], q: &[u8]) -> TestAnswer
 
 // Finding the missing chain: the refusal, or its number of atoms.
 pub fn missing(s: &[u8], q: &[u8], out: &mut [u8]) -> WriteAnswer
-    ensures { λ r. ⌜ MissingPromise office (now (s .entry)) (now (q .entry)) (now (out .entry)) (now (out .exit)) r ⌝ }
+    ensures { λ r. ⌜ Promised office (call.missing (now (s .entry)) (now (q .entry)) (now (out .entry))) (fromWrite r) (naturals (now (out .exit))) ⌝ }
 {
     let mut table = [0u64; 1024];
     core::missing(limits(), s, q, out, &mut table)
@@ -105,7 +108,7 @@ pub fn missing(s: &[u8], q: &[u8], out: &mut [u8]) -> WriteAnswer
 
 // Writing the unfolded program: the refusal, or the number of words.
 pub fn unfolded(s: &[u8], q: &[u8], out: &mut [u32]) -> WriteAnswer
-    ensures { λ r. ⌜ UnfoldedPromise office (now (s .entry)) (now (q .entry)) (now (out .entry)) (now (out .exit)) r ⌝ }
+    ensures { λ r. ⌜ Promised office (call.unfolded (now (s .entry)) (now (q .entry)) (now (out .entry))) (fromWrite r) (naturals (now (out .exit))) ⌝ }
 {
     let mut table = [0u64; 1024];
     core::unfolded(limits(), s, q, out, &mut table)
@@ -113,7 +116,7 @@ pub fn unfolded(s: &[u8], q: &[u8], out: &mut [u32]) -> WriteAnswer
 
 // Writing clauses: the refusal, or the numbers of words, of variables and of clauses.
 pub fn clauses(s: &[u8], q: &[u8], out: &mut [i32]) -> ClausesAnswer
-    ensures { λ r. ⌜ ClausesPromise office (now (s .entry)) (now (q .entry)) (now (out .entry)) (now (out .exit)) r ⌝ }
+    ensures { λ r. ⌜ Promised office (call.clauses (now (s .entry)) (now (q .entry)) (now (out .entry))) (fromClauses r) (integers (now (out .exit))) ⌝ }
 {
     let mut table = [0u64; 1024];
     core::clauses(limits(), s, q, out, &mut table)

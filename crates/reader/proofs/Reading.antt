@@ -13,10 +13,11 @@ use Rattle.bits.specs.inner.Sets.{has, With, ByteAt}
 use Rattle.bits.proofs.Digits.{zero-has}
 use Rattle.bits.specs.inner.Visited.{listed}
 use Rattle.bits.proofs.Rising.{listed-gathered}
-use Rattle.sheet.specs.Questions.{ask}
+use Rattle.sheet.specs.Questions.{ask, firstRefusal}
 use Rattle.sheet.specs.Format.{part, complete, kindPasses, listFits, listsFit, recordQuestions}
 use Rattle.sheet.specs.Sheet.{recordAt}
-use Rattle.sheet.proofs.Records.{ask-yes, record-incomplete, record-kind, lists-pos, lists-neg}
+use Rattle.sheet.proofs.Questions.{ask-yes, then-none}
+use Rattle.sheet.proofs.Records.{record-incomplete, record-kind, lists-pos, lists-neg}
 use Rattle.sheet.proofs.Lists.{climb-is, Climbing, climbing-start, climbing-below, climbing-above, climbing-turn, climbing-end}
 use Rattle.reader.specs.declared.Gather.{Gather}
 use Rattle.reader.specs.declared.Entry.{Entry}
@@ -106,5 +107,5 @@ module _ (n : ℕ) (s : List ℕ) (at : ℕ) (b : Bool) (B : b ≡ complete s at
     entry-kind r f e = record { says = e ∙ record-kind s at n b c B t C f; taken = λ z. absurd (omega arith) }
 
     pub entry-lists : (r : Entry) → c ≡ true → ListsRead n s at r → EntryRead n s at r
-    unfolding recordQuestions
-    entry-lists r u R = record { says = R .says ∙ sym (ask-yes (sym B ∙ t) 4 _ ∙ ask-yes (sym C ∙ u) 5 _); taken = R .taken }
+    unfolding recordQuestions firstRefusal
+    entry-lists r u R = record { says = R .says ∙ sym (ask-yes (sym B ∙ t) 4 _ ∙ ask-yes (sym C ∙ u) 5 _ ∙ then-none (ask (listsFit n s at) 6)); taken = R .taken }

@@ -1,14 +1,10 @@
 -- The three demands of what C sees of the hub.
-use Rattle.demands.specs.Demands.{Demand1, Demand2, Demand3, TextForSolvers, MissingChains}
-use Rattle.demands.specs.Lengthened.{LengthenedSequences}
-use Rattle.demands.specs.Claims.{Shorter}
-use Rattle.interface.specs.Seen.{Seen, NumbersKept, SameShown}
+use Rattle.guarantees.specs.Demands.{Demand1, Demand2, Demand3, TextForSolvers, MissingChains}
+use Rattle.guarantees.specs.Lengthened.{LengthenedSequences}
+use Rattle.guarantees.specs.Claims.{Shorter}
+use Rattle.interface.specs.Seen.{Seen, NumbersKept}
 use Rattle.interface.proofs.Demands as interface
-use Rattle.demands.specs.Services.{SameAnswers}
-use Rattle.demands.proofs.Services.{one-service}
-use Rattle.office.specs.Office.{office}
 use Rattle.hub.specs.Hub.{hub}
-use Rattle.hub.proofs.Laws.{hub-format, hub-narrower}
 
 -- The demands of the C interface.
 pub seen-demand-1 : Demand1 hub (Seen hub)
@@ -39,11 +35,3 @@ seen-shorter = interface.seen-shorter hub
 -- On a refusal the lent numbers are as they were.
 pub numbers-kept : NumbersKept hub
 numbers-kept = interface.numbers-kept hub
-
--- What C sees of hub and office is the same, but for 15 and 16.
-pub seen-same-answers : SameAnswers hub (Seen hub) (Seen office)
-seen-same-answers = one-service hub office hub-format hub-narrower (Seen hub) (Seen office) seen-demand-1 (interface.seen-demand-1 office)
-
--- And so are the bodies that C is shown, with their places.
-pub seen-same-shown : SameShown hub office
-seen-same-shown = interface.same-shown hub office hub-format hub-narrower

@@ -7,8 +7,8 @@ use interface::store_length;
 use interface::store_read;
 use interface::store_test;
 ghost use mathlib.Core.List.{_∷_, []};
-ghost use Rattle.demands.specs.Calls.{nothing, unsigned, signed};
-ghost use Rattle.demands.specs.Calls as call;
+ghost use Rattle.operations.specs.Calls.{nothing, naturals, integers};
+ghost use Rattle.operations.specs.Calls as call;
 ghost use Rattle.hub.specs.Hub.{hub};
 ghost use Rattle.interface.specs.Seen.{Returned};
 
@@ -42,7 +42,7 @@ pub extern "C" fn rulehub_body(
 #[no_mangle]
 pub extern "C" fn rulehub_components(sheet: &[u8], out: &mut [u8], written: &mut u64) -> u32
     ensures { λ r. ⌜ Returned hub (call.components (now (sheet .entry)) (now (out .entry))) r
-        (now (written .entry) ∷ []) (now (written .exit) ∷ []) (unsigned (now (out .exit))) ⌝ }
+        (now (written .entry) ∷ []) (now (written .exit) ∷ []) (naturals (now (out .exit))) ⌝ }
 {
     store_length(hub::components(sheet, out), written)
 }
@@ -51,7 +51,7 @@ pub extern "C" fn rulehub_components(sheet: &[u8], out: &mut [u8], written: &mut
 #[no_mangle]
 pub extern "C" fn rulehub_default(sheet: &[u8], out: &mut [u8], written: &mut u64) -> u32
     ensures { λ r. ⌜ Returned hub (call.default (now (sheet .entry)) (now (out .entry))) r
-        (now (written .entry) ∷ []) (now (written .exit) ∷ []) (unsigned (now (out .exit))) ⌝ }
+        (now (written .entry) ∷ []) (now (written .exit) ∷ []) (naturals (now (out .exit))) ⌝ }
 {
     store_length(hub::default_sequence(sheet, out), written)
 }
@@ -60,7 +60,7 @@ pub extern "C" fn rulehub_default(sheet: &[u8], out: &mut [u8], written: &mut u6
 #[no_mangle]
 pub extern "C" fn rulehub_lparse(sheet: &[u8], out: &mut [u8], written: &mut u64) -> u32
     ensures { λ r. ⌜ Returned hub (call.lparse (now (sheet .entry)) (now (out .entry))) r
-        (now (written .entry) ∷ []) (now (written .exit) ∷ []) (unsigned (now (out .exit))) ⌝ }
+        (now (written .entry) ∷ []) (now (written .exit) ∷ []) (naturals (now (out .exit))) ⌝ }
 {
     store_length(hub::lparse(sheet, out), written)
 }
@@ -82,7 +82,7 @@ pub extern "C" fn rulehub_missing(
     written: &mut u64,
 ) -> u32
     ensures { λ r. ⌜ Returned hub (call.missing (now (sheet .entry)) (now (sequence .entry)) (now (out .entry))) r
-        (now (written .entry) ∷ []) (now (written .exit) ∷ []) (unsigned (now (out .exit))) ⌝ }
+        (now (written .entry) ∷ []) (now (written .exit) ∷ []) (naturals (now (out .exit))) ⌝ }
 {
     store_length(hub::missing(sheet, sequence, out), written)
 }
@@ -96,7 +96,7 @@ pub extern "C" fn rulehub_unfolded(
     written: &mut u64,
 ) -> u32
     ensures { λ r. ⌜ Returned hub (call.unfolded (now (sheet .entry)) (now (sequence .entry)) (now (out .entry))) r
-        (now (written .entry) ∷ []) (now (written .exit) ∷ []) (unsigned (now (out .exit))) ⌝ }
+        (now (written .entry) ∷ []) (now (written .exit) ∷ []) (naturals (now (out .exit))) ⌝ }
 {
     store_length(hub::unfolded(sheet, sequence, out), written)
 }
@@ -113,7 +113,7 @@ pub extern "C" fn rulehub_clauses(
 ) -> u32
     ensures { λ r. ⌜ Returned hub (call.clauses (now (sheet .entry)) (now (sequence .entry)) (now (out .entry))) r
         (now (written .entry) ∷ now (variables .entry) ∷ now (clauses .entry) ∷ [])
-        (now (written .exit) ∷ now (variables .exit) ∷ now (clauses .exit) ∷ []) (signed (now (out .exit))) ⌝ }
+        (now (written .exit) ∷ now (variables .exit) ∷ now (clauses .exit) ∷ []) (integers (now (out .exit))) ⌝ }
 {
     let answer = hub::clauses(sheet, sequence, out);
     store_clauses(answer, written, variables, clauses)

@@ -1,11 +1,11 @@
 -- The three demands of what C sees of the office.
-use Rattle.demands.specs.Demands.{Demand1, Demand2, Demand3, TextForSolvers, MissingChains}
-use Rattle.demands.specs.Lengthened.{LengthenedSequences}
-use Rattle.demands.specs.Claims.{Shorter}
+use Rattle.guarantees.specs.Demands.{Demand1, Demand2, Demand3, TextForSolvers, MissingChains}
+use Rattle.guarantees.specs.Lengthened.{LengthenedSequences}
+use Rattle.guarantees.specs.Claims.{Shorter}
 use Rattle.interface.specs.Seen.{Seen, NumbersKept}
 use Rattle.interface.proofs.Demands as interface
-use Rattle.demands.specs.Services.{NeverTooLarge}
-use Rattle.demands.proofs.Services.{never-too-large}
+use Rattle.guarantees.specs.Services.{NeverTooLarge}
+use Rattle.guarantees.proofs.Services.{never-too-large}
 use Rattle.office.specs.Office.{office}
 use Rattle.office.proofs.Laws.{office-whole}
 

@@ -7,8 +7,8 @@ use interface::store_length;
 use interface::store_read;
 use interface::store_test;
 ghost use mathlib.Core.List.{_∷_, []};
-ghost use Rattle.demands.specs.Calls.{nothing, unsigned, signed};
-ghost use Rattle.demands.specs.Calls as call;
+ghost use Rattle.operations.specs.Calls.{nothing, naturals, integers};
+ghost use Rattle.operations.specs.Calls as call;
 ghost use Rattle.office.specs.Office.{office};
 ghost use Rattle.interface.specs.Seen.{Returned};
 
@@ -42,7 +42,7 @@ pub extern "C" fn rulesheet_body(
 #[no_mangle]
 pub extern "C" fn rulesheet_components(sheet: &[u8], out: &mut [u8], written: &mut u64) -> u32
     ensures { λ r. ⌜ Returned office (call.components (now (sheet .entry)) (now (out .entry))) r
-        (now (written .entry) ∷ []) (now (written .exit) ∷ []) (unsigned (now (out .exit))) ⌝ }
+        (now (written .entry) ∷ []) (now (written .exit) ∷ []) (naturals (now (out .exit))) ⌝ }
 {
     store_length(office::components(sheet, out), written)
 }
@@ -51,7 +51,7 @@ pub extern "C" fn rulesheet_components(sheet: &[u8], out: &mut [u8], written: &m
 #[no_mangle]
 pub extern "C" fn rulesheet_default(sheet: &[u8], out: &mut [u8], written: &mut u64) -> u32
     ensures { λ r. ⌜ Returned office (call.default (now (sheet .entry)) (now (out .entry))) r
-        (now (written .entry) ∷ []) (now (written .exit) ∷ []) (unsigned (now (out .exit))) ⌝ }
+        (now (written .entry) ∷ []) (now (written .exit) ∷ []) (naturals (now (out .exit))) ⌝ }
 {
     store_length(office::default_sequence(sheet, out), written)
 }
@@ -60,7 +60,7 @@ pub extern "C" fn rulesheet_default(sheet: &[u8], out: &mut [u8], written: &mut 
 #[no_mangle]
 pub extern "C" fn rulesheet_lparse(sheet: &[u8], out: &mut [u8], written: &mut u64) -> u32
     ensures { λ r. ⌜ Returned office (call.lparse (now (sheet .entry)) (now (out .entry))) r
-        (now (written .entry) ∷ []) (now (written .exit) ∷ []) (unsigned (now (out .exit))) ⌝ }
+        (now (written .entry) ∷ []) (now (written .exit) ∷ []) (naturals (now (out .exit))) ⌝ }
 {
     store_length(office::lparse(sheet, out), written)
 }
@@ -82,7 +82,7 @@ pub extern "C" fn rulesheet_missing(
     written: &mut u64,
 ) -> u32
     ensures { λ r. ⌜ Returned office (call.missing (now (sheet .entry)) (now (sequence .entry)) (now (out .entry))) r
-        (now (written .entry) ∷ []) (now (written .exit) ∷ []) (unsigned (now (out .exit))) ⌝ }
+        (now (written .entry) ∷ []) (now (written .exit) ∷ []) (naturals (now (out .exit))) ⌝ }
 {
     store_length(office::missing(sheet, sequence, out), written)
 }
@@ -96,7 +96,7 @@ pub extern "C" fn rulesheet_unfolded(
     written: &mut u64,
 ) -> u32
     ensures { λ r. ⌜ Returned office (call.unfolded (now (sheet .entry)) (now (sequence .entry)) (now (out .entry))) r
-        (now (written .entry) ∷ []) (now (written .exit) ∷ []) (unsigned (now (out .exit))) ⌝ }
+        (now (written .entry) ∷ []) (now (written .exit) ∷ []) (naturals (now (out .exit))) ⌝ }
 {
     store_length(office::unfolded(sheet, sequence, out), written)
 }
@@ -113,7 +113,7 @@ pub extern "C" fn rulesheet_clauses(
 ) -> u32
     ensures { λ r. ⌜ Returned office (call.clauses (now (sheet .entry)) (now (sequence .entry)) (now (out .entry))) r
         (now (written .entry) ∷ now (variables .entry) ∷ now (clauses .entry) ∷ [])
-        (now (written .exit) ∷ now (variables .exit) ∷ now (clauses .exit) ∷ []) (signed (now (out .exit))) ⌝ }
+        (now (written .exit) ∷ now (variables .exit) ∷ now (clauses .exit) ∷ []) (integers (now (out .exit))) ⌝ }
 {
     let answer = office::clauses(sheet, sequence, out);
     store_clauses(answer, written, variables, clauses)

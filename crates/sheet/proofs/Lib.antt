@@ -1,4 +1,5 @@
 pub mod Lists
+pub mod Questions
 pub mod Records
 pub mod Walk
 pub mod Sequences

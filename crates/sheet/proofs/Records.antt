@@ -1,4 +1,4 @@
--- Laws of the questions about records and about the whole form, one for each way out.
+-- Laws of questions 4 to 6 about records and of questions 1 to 6, one for each way out.
 use mathlib.Core.Bool.{Bool, true, false, _&&_, and-false}
 use mathlib.Core.List.{List}
 use mathlib.Core.Path.{_≡_, refl, sym, _∙_, ap}
@@ -10,27 +10,11 @@ use lib.Dec.{eqb, ltb, leb}
 use lib.ListN.{length}
 use Rattle.lists.proofs.Bools.{is-true, is-false, bool-ext, and-intro, and-left, and-right}
 use Rattle.bits.specs.inner.Sets.{ByteAt}
-use Rattle.sheet.specs.Questions.{ask, _then_}
-use Rattle.sheet.specs.Format.{part, size, positives, end, opens, measured, limited, complete, kindFits, kindPasses, listFits, listsFit, recordQuestions, recordsQuestions, lengthField, atomsByte, recordsByte, byte}
-use Rattle.sheet.specs.inner.Walk.{Complete, formQuestions}
+use Rattle.sheet.specs.Questions.{ask, _then_, firstRefusal}
+use Rattle.sheet.specs.Format.{part, size, positives, end, opens, measured, limited, complete, kindFits, kindPasses, listFits, listsFit, recordQuestions, recordsQuestions, formQuestions, lengthField, atomsByte, recordsByte, byte}
+use Rattle.sheet.specs.inner.Walk.{Complete, recordRefusal, recordsRefusal, formRefusal}
 use Rattle.sheet.specs.declared.Limits.{Limits}
-
--- Questions.
-pub ask-no : {b : Bool} → b ≡ false → (q r : ℕ) → (q ≡ 0 → ⊥) → ask b q then r ≡ q
-unfolding ask _then_
-ask-no e q r h = rw e (rw (ne-eqb q 0 h) refl)
-
-pub ask-yes : {b : Bool} → b ≡ true → (q r : ℕ) → ask b q then r ≡ r
-unfolding ask _then_
-ask-yes e q r = rw e refl
-
-pub then-zero : (q r : ℕ) → q ≡ 0 → q then r ≡ r
-unfolding _then_
-then-zero q r e = rw e refl
-
-pub then-refused : (q r : ℕ) → (q ≡ 0 → ⊥) → q then r ≡ q
-unfolding _then_
-then-refused q r h = rw (ne-eqb q 0 h) refl
+use Rattle.sheet.proofs.Questions.{ask-no, ask-yes, then-zero, then-refused, then-none, first-append}
 
 complete-in : (s : List ℕ) (at : ℕ) → Complete s at → complete s at ≡ true
 unfolding complete
@@ -92,54 +76,54 @@ module _ (s : List ℕ) (at : ℕ) where
   pub known-complete : (b : Bool) → b ≡ complete s at → b ≡ true → Complete s at
   known-complete b e t = complete-out s at (sym e ∙ t)
 
-  pub record-incomplete : (n : ℕ) (b : Bool) → b ≡ complete s at → b ≡ false → 4 ≡ recordQuestions n s at
-  unfolding recordQuestions
+  pub record-incomplete : (n : ℕ) (b : Bool) → b ≡ complete s at → b ≡ false → 4 ≡ recordRefusal n s at
+  unfolding recordQuestions firstRefusal
   record-incomplete n b e f = sym (ask-no (sym e ∙ f) 4 _ (λ e. omega arith))
 
-  pub record-kind : (n : ℕ) (b c : Bool) → b ≡ complete s at → b ≡ true → c ≡ kindPasses n s at → c ≡ false → 5 ≡ recordQuestions n s at
-  unfolding recordQuestions
+  pub record-kind : (n : ℕ) (b c : Bool) → b ≡ complete s at → b ≡ true → c ≡ kindPasses n s at → c ≡ false → 5 ≡ recordRefusal n s at
+  unfolding recordQuestions firstRefusal
   record-kind n b c e t g f = sym (ask-yes (sym e ∙ t) 4 _ ∙ ask-no (sym g ∙ f) 5 _ (λ e. omega arith))
 
 -- The loop over the records.
 pub record Checking (n : ℕ) (s : List ℕ) (m left at : ℕ) : Type 0 where
-  pub same : recordsQuestions left n s at ≡ recordsQuestions m n s 5
+  pub same : recordsRefusal left n s at ≡ recordsRefusal m n s 5
   pub inside : at ≤ length s
 
-record-known : (n : ℕ) (s : List ℕ) (at : ℕ) → 0 ≡ recordQuestions n s at → Complete s at
-unfolding recordQuestions
+record-known : (n : ℕ) (s : List ℕ) (at : ℕ) → 0 ≡ recordRefusal n s at → Complete s at
+unfolding recordQuestions firstRefusal
 record-known n s at e = complete-out s at (is-true (λ f. let q = e ∙ ask-no f 4 _ (λ e. omega arith) in omega arith))
 
 module _ (n : ℕ) (s : List ℕ) (m : ℕ) where
   pub checking-start : 5 ≤ length s → Checking n s m m 5
   checking-start l = record { same = refl; inside = l }
 
-  turned : (left at : ℕ) → 0 < left → recordsQuestions left n s at ≡ recordQuestions n s at then recordsQuestions (left - 1) n s (end s at)
+  turned : (left at : ℕ) → 0 < left → recordsRefusal left n s at ≡ recordRefusal n s at then recordsRefusal (left - 1) n s (end s at)
   unfolding recordsQuestions
   turned zero at l = absurd (omega arith)
-  turned (suc left) at l = rw (sub-one (suc left)) refl
+  turned (suc left) at l = rw (sub-one (suc left)) (first-append (recordQuestions n s at) (recordsQuestions left n s (end s at)))
 
-  pub checking-turn : (left at q e : ℕ) → Checking n s m left at → 0 < left → q ≡ recordQuestions n s at → q ≡ 0 → e ≡ end s at → Checking n s m (left - 1) e
+  pub checking-turn : (left at q e : ℕ) → Checking n s m left at → 0 < left → q ≡ recordRefusal n s at → q ≡ 0 → e ≡ end s at → Checking n s m (left - 1) e
   checking-turn left at q e C l k z g =
       let f = record-known n s at (sym z ∙ k) .fits in
       record {
-        same = ap (recordsQuestions (left - 1) n s) g ∙ (sym (turned left at l ∙ then-zero (recordQuestions n s at) _ (sym k ∙ z)) ∙ C .same);
+        same = ap (recordsRefusal (left - 1) n s) g ∙ (sym (turned left at l ∙ then-zero (recordRefusal n s at) _ (sym k ∙ z)) ∙ C .same);
         inside = omega arith;
       }
 
-  pub checking-refused : (left at q : ℕ) → Checking n s m left at → 0 < left → q ≡ recordQuestions n s at → (q ≡ 0 → ⊥) → q ≡ recordsQuestions m n s 5
+  pub checking-refused : (left at q : ℕ) → Checking n s m left at → 0 < left → q ≡ recordRefusal n s at → (q ≡ 0 → ⊥) → q ≡ recordsRefusal m n s 5
   checking-refused left at q C l k z =
-      k ∙ (sym (then-refused (recordQuestions n s at) _ (λ e. z (k ∙ e))) ∙ (sym (turned left at l) ∙ C .same))
+      k ∙ (sym (then-refused (recordRefusal n s at) _ (λ e. z (k ∙ e))) ∙ (sym (turned left at l) ∙ C .same))
 
-  ended : (left at : ℕ) → left ≤ 0 → recordsQuestions left n s at ≡ ask (eqb at (length s)) 4
-  unfolding recordsQuestions
-  ended zero at l = refl
+  ended : (left at : ℕ) → left ≤ 0 → recordsRefusal left n s at ≡ ask (eqb at (length s)) 4
+  unfolding recordsQuestions firstRefusal
+  ended zero at l = then-none (ask (eqb at (length s)) 4)
   ended (suc left) at l = absurd (omega arith)
 
-  pub checking-end : (left at : ℕ) → Checking n s m left at → left ≤ 0 → at ≡ length s → 0 ≡ recordsQuestions m n s 5
+  pub checking-end : (left at : ℕ) → Checking n s m left at → left ≤ 0 → at ≡ length s → 0 ≡ recordsRefusal m n s 5
   unfolding ask
   checking-end left at C l e = sym (rw (eq-eqb at (length s) e) refl) ∙ (sym (ended left at l) ∙ C .same)
 
-  pub checking-left : (left at : ℕ) → Checking n s m left at → left ≤ 0 → (at ≡ length s → ⊥) → 4 ≡ recordsQuestions m n s 5
+  pub checking-left : (left at : ℕ) → Checking n s m left at → left ≤ 0 → (at ≡ length s → ⊥) → 4 ≡ recordsRefusal m n s 5
   unfolding ask
   checking-left left at C l e = sym (rw (ne-eqb at (length s) e) refl) ∙ (sym (ended left at l) ∙ C .same)
 
@@ -153,36 +137,36 @@ module _ (L : Limits) (s : List ℕ) where
   unfolding measured
   measured-in b d B D e = eq-eqb (lengthField s) (length s) (rw (B .is, D .is) at e)
 
-  pub form-short : length s < 5 → 1 ≡ formQuestions L s
-  unfolding formQuestions opens
+  pub form-short : length s < 5 → 1 ≡ formRefusal L s
+  unfolding formQuestions firstRefusal opens
   form-short l = sym (ask-no (rw (lt-leb 5 (length s) l) refl) 1 _ (λ e. omega arith))
 
-  pub form-version : (b : ℕ) → ByteAt s 0 b → (b ≡ 1 → ⊥) → 1 ≡ formQuestions L s
-  unfolding formQuestions opens
+  pub form-version : (b : ℕ) → ByteAt s 0 b → (b ≡ 1 → ⊥) → 1 ≡ formRefusal L s
+  unfolding formQuestions firstRefusal opens
   form-version b B n =
       sym (ask-no (rw (ne-eqb (byte s 0) 1 (λ e. n (B .is ∙ e))) (and-false (leb 5 (length s)))) 1 _ (λ e. omega arith))
 
   module _ (v : ℕ) (l : 5 ≤ length s) (V₀ : ByteAt s 0 v) (one : v ≡ 1) (b d : ℕ) (B : ByteAt s 1 b) (D : ByteAt s 2 d) where
-    pub form-length : (b * 256 + d ≡ length s → ⊥) → 2 ≡ formQuestions L s
-    unfolding formQuestions measured
+    pub form-length : (b * 256 + d ≡ length s → ⊥) → 2 ≡ formRefusal L s
+    unfolding formQuestions firstRefusal measured
     form-length n =
         sym (ask-yes (opens-in v l V₀ one) 1 _ ∙ ask-no (ne-eqb (lengthField s) (length s) (λ e. n (rw (B .is, D .is) e))) 2 _ (λ e. omega arith))
 
     module _ (same : b * 256 + d ≡ length s) (n m : ℕ) (N : ByteAt s 3 n) (M : ByteAt s 4 m) where
-      third : formQuestions L s ≡ ask (limited L s) 3 then recordsQuestions (recordsByte s) (atomsByte s) s 5
-      unfolding formQuestions
+      third : formRefusal L s ≡ ask (limited L s) 3 then recordsRefusal (recordsByte s) (atomsByte s) s 5
+      unfolding formQuestions firstRefusal
       third = ask-yes (opens-in v l V₀ one) 1 _ ∙ ask-yes (measured-in b d B D same) 2 _
 
-      pub form-atoms : L .atoms < n → 3 ≡ formQuestions L s
+      pub form-atoms : L .atoms < n → 3 ≡ formRefusal L s
       unfolding limited
       form-atoms k = sym (third ∙ ask-no (rw (lt-leb (atomsByte s) (L .atoms) (rw (N .is) at k)) refl) 3 _ (λ e. omega arith))
 
-      pub form-records : L .records < m → 3 ≡ formQuestions L s
+      pub form-records : L .records < m → 3 ≡ formRefusal L s
       unfolding limited
       form-records k =
           sym (third ∙ ask-no (rw (lt-leb (recordsByte s) (L .records) (rw (M .is) at k)) (and-false (leb (atomsByte s) (L .atoms)))) 3 _ (λ e. omega arith))
 
-      pub form-rest : n ≤ L .atoms → m ≤ L .records → formQuestions L s ≡ recordsQuestions m n s 5
+      pub form-rest : n ≤ L .atoms → m ≤ L .records → formRefusal L s ≡ recordsRefusal m n s 5
       unfolding limited
       form-rest k j =
           third

@@ -1,51 +1,44 @@
 -- Laws of walks over the records of a sheet that has passed questions 1 to 6.
-use mathlib.Core.Bool.{Bool, true, false}
+use mathlib.Core.Bool.{true}
 use mathlib.Core.List.{List, List·Memᴰ, List·Memᴰ·not-nil, List·Memᴰ·cases-cons}
 use mathlib.Core.Logic.{⊎-elim}
 use mathlib.Core.Path.{_≡_, refl, sym, _∙_, ap, subst}
 use Prim.Native.Nat.{ℕ, zero, suc, _≤_, _<_}
 use native.Mathlib.Numerals.{sub-one}
 use native.Mathlib.Omega.{arith}
-use borrow.Author.Tests.{eqb-true, eq-eqb, ne-eqb, leb-true}
-use lib.Dec.{eqb, leb}
+use borrow.Author.Tests.{leb-true}
+use lib.Dec.{leb}
 use lib.ListN.{length}
 use Rattle.lists.specs.Lists.{below}
-use Rattle.lists.proofs.Bools.{by-bool, true-false, and-intro, and-left, and-right}
+use Rattle.lists.proofs.Bools.{and-intro, and-left, and-right}
 use Rattle.asp.specs.Program.{bodyBelow}
-use Rattle.sheet.specs.Questions.{ask, _then_}
-use Rattle.sheet.specs.Format.{end, posOf, negOf, complete, kindPasses, rising, listFits, listsFit, limited, opens, measured, recordQuestions, recordsQuestions, atomsByte, recordsByte}
-use Rattle.sheet.specs.inner.Walk.{formQuestions, Known, Walk, Stepped, Sound, AllSound}
+use Rattle.sheet.specs.Questions.{firstRefusal}
+use Rattle.sheet.specs.Format.{end, posOf, negOf, complete, kindPasses, rising, listFits, listsFit, limited, opens, measured, recordQuestions, recordsQuestions, formQuestions, atomsByte, recordsByte}
+use Rattle.sheet.specs.inner.Walk.{recordRefusal, recordsRefusal, formRefusal, Known, Walk, Stepped, Sound, AllSound}
 use Rattle.sheet.specs.Sheet.{Record, recordAt, recordsFrom, records}
 use Rattle.sheet.specs.declared.Limits.{Limits}
+use Rattle.sheet.proofs.Questions.{asked-yes, then-passed, first-append}
 use Rattle.sheet.proofs.Records.{complete-out}
 
--- Questions that are all passed.
-pub asked-yes : (b : Bool) (q r : ℕ) → (q ≡ 0 → ⊥) → ask b q then r ≡ 0 → (b ≡ true) × (r ≡ 0)
-unfolding ask _then_
-asked-yes true q r h e = (refl, e)
-asked-yes false q r h e = absurd (h (sym (rw (ne-eqb q 0 h) refl) ∙ e))
-
-pub ask-passed : (b : Bool) (q : ℕ) → (q ≡ 0 → ⊥) → ask b q ≡ 0 → b ≡ true
-unfolding ask
-ask-passed true q h e = refl
-ask-passed false q h e = absurd (h e)
-
-pub then-passed : (q r : ℕ) → q then r ≡ 0 → (q ≡ 0) × (r ≡ 0)
-unfolding _then_
-then-passed q r e = by-bool (eqb q 0) (λ t. (eqb-true q 0 t, rw t at e)) (λ f. let z : q ≡ 0 = rw f at e in absurd (true-false (eq-eqb q 0 z) f))
-
-known : (n : ℕ) (s : List ℕ) (at : ℕ) → recordQuestions n s at ≡ 0 → Known s n at
-unfolding recordQuestions
+known : (n : ℕ) (s : List ℕ) (at : ℕ) → recordRefusal n s at ≡ 0 → Known s n at
+unfolding recordQuestions firstRefusal
 known n s at e =
     let a = asked-yes (complete s at) 4 _ (λ e. omega arith) e in
     let b = asked-yes (kindPasses n s at) 5 _ (λ e. omega arith) (a .1) in
-    record { whole = complete-out s at (a .0); kinds = b .0; lists = ask-passed (listsFit n s at) 6 (λ e. omega arith) (b .1) }
+    record { whole = complete-out s at (a .0); kinds = b .0; lists = asked-yes (listsFit n s at) 6 0 (λ e. omega arith) (b .1) .0 }
+
+-- The first record of a walk has passed, and so have those behind it.
+parted : (s : List ℕ) (n left at : ℕ) → Walk s n (suc left) at → (recordRefusal n s at ≡ 0) × (recordsRefusal left n s (end s at) ≡ 0)
+unfolding recordsQuestions
+parted s n left at W =
+    then-passed (recordRefusal n s at) (recordsRefusal left n s (end s at))
+    (sym (first-append (recordQuestions n s at) (recordsQuestions left n s (end s at))) ∙ W .passed)
 
 stepped : (s : List ℕ) (n left at : ℕ) → Walk s n left at → 0 < left → Stepped s n left at (end s at)
-unfolding recordsQuestions recordsFrom
+unfolding recordsFrom
 stepped s n zero at W l = absurd (omega arith)
 stepped s n (suc left) at W l =
-    let p = then-passed (recordQuestions n s at) (recordsQuestions left n s (end s at)) (W .passed) in
+    let p = parted s n left at W in
     record { is = refl; known = known n s at (p .0); rest = rw (sub-one (suc left)) (record { passed = p .1 }); list = rw (sub-one (suc left)) refl }
 
 pub walk-inside : (s : List ℕ) (n left at : ℕ) → Walk s n left at → 0 < left → at < length s
@@ -64,8 +57,8 @@ pub record Formed (L : Limits) (s : List ℕ) : Type 0 where
   pub count : recordsByte s ≤ L .records
   pub walk : Walk s (atomsByte s) (recordsByte s) 5
 
-pub formed : (L : Limits) (s : List ℕ) → formQuestions L s ≡ 0 → Formed L s
-unfolding formQuestions opens limited
+pub formed : (L : Limits) (s : List ℕ) → formRefusal L s ≡ 0 → Formed L s
+unfolding formQuestions firstRefusal opens limited
 formed L s e =
     let a = asked-yes (opens s) 1 _ (λ e. omega arith) e in
     let b = asked-yes (measured s) 2 _ (λ e. omega arith) (a .1) in
@@ -103,10 +96,10 @@ sound s n at K =
 -- What holds of every known record holds of the records of a walk.
 walk-all : (Q : Record → Type 0) (s : List ℕ) (n : ℕ) → ((at : ℕ) → Known s n at → Q (recordAt s at))
     → (left at : ℕ) → Walk s n left at → (r : Record) → List·Memᴰ r (recordsFrom left s at) → Q r
-unfolding recordsFrom recordsQuestions
+unfolding recordsFrom
 walk-all Q s n h zero at W r m = absurd (List·Memᴰ·not-nil m)
 walk-all Q s n h (suc left) at W r m =
-    let p = then-passed (recordQuestions n s at) (recordsQuestions left n s (end s at)) (W .passed) in
+    let p = parted s n left at W in
     ⊎-elim (λ e. subst Q (sym e) (h at (known n s at (p .0)))) (λ k. walk-all Q s n h left (end s at) (record { passed = p .1 }) r k)
     (List·Memᴰ·cases-cons m)
 
@@ -115,7 +108,7 @@ unfolding recordsFrom
 records-count zero s at = refl
 records-count (suc k) s at = ap suc (records-count k s (end s at))
 
-module _ (L : Limits) (s : List ℕ) (e : formQuestions L s ≡ 0) where
+module _ (L : Limits) (s : List ℕ) (e : formRefusal L s ≡ 0) where
   pub records-sound : AllSound (atomsByte s) (records s)
   unfolding records
   records-sound = walk-all (Sound (atomsByte s)) s (atomsByte s) (sound s (atomsByte s)) (recordsByte s) 5 (formed L s e .walk)

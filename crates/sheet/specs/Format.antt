@@ -1,11 +1,11 @@
 -- The bytes of a sheet ("Bytes of a sheet" of document 01) and questions 1 to 6.
 use mathlib.Core.Bool.{Bool, true, _&&_, _||_}
-use mathlib.Core.List.{List, [], _∷_}
+use mathlib.Core.List.{List, [], _∷_, _++_}
 use Prim.Native.Nat.{ℕ, zero, suc, _+_, _*_, _-_}
 use lib.Dec.{eqb, ltb, leb}
 use lib.ListN.{length, getD, take, drop}
 use Rattle.lists.specs.Lists.{below}
-use Rattle.sheet.specs.Questions.{ask, _then_}
+use Rattle.sheet.specs.Questions.{ask}
 use Rattle.sheet.specs.declared.Limits.{Limits}
 
 -- The byte at an index.
@@ -92,11 +92,14 @@ unfoldable pub listsFit : ℕ → List ℕ → ℕ → Bool
 listsFit n s at = listFits n (posOf s at) && listFits n (negOf s at)
 
 -- Questions 4, 5, 6 of the record at `at`.
-unfoldable pub recordQuestions : ℕ → List ℕ → ℕ → ℕ
-recordQuestions n s at =
-    ask (complete s at) 4 then ask (kindPasses n s at) 5 then ask (listsFit n s at) 6
+unfoldable pub recordQuestions : ℕ → List ℕ → ℕ → List ℕ
+recordQuestions n s at = ask (complete s at) 4 ∷ ask (kindPasses n s at) 5 ∷ ask (listsFit n s at) 6 ∷ []
 
 -- The same of k records from `at` on, each finished before the next; then, does nothing remain?
-unfoldable pub recordsQuestions : ℕ → ℕ → List ℕ → ℕ → ℕ
-recordsQuestions zero n s at = ask (eqb at (length s)) 4
-recordsQuestions (suc k) n s at = recordQuestions n s at then recordsQuestions k n s (end s at)
+unfoldable pub recordsQuestions : ℕ → ℕ → List ℕ → ℕ → List ℕ
+recordsQuestions zero n s at = ask (eqb at (length s)) 4 ∷ []
+recordsQuestions (suc k) n s at = recordQuestions n s at ++ recordsQuestions k n s (end s at)
+
+-- Questions 1 to 6.
+unfoldable pub formQuestions : Limits → List ℕ → List ℕ
+formQuestions L s = ask (opens s) 1 ∷ ask (measured s) 2 ∷ ask (limited L s) 3 ∷ recordsQuestions (recordsByte s) (atomsByte s) s 5

@@ -24,7 +24,7 @@ use Rattle.reader.specs.inner.Tabled.{recordOf}
 use Rattle.translation.specs.declared.SheetRecord.{SheetRecord}
 use Rattle.translation.specs.declared.TableEntry.{TableEntry}
 use Rattle.translation.specs.inner.Records.{Records, recordsFrom, recordsIn, recordIn, recordAtIndex, RecordAt, Expandable, FreshFor}
-use Rattle.translation.specs.inner.Translated.{Entries, entries, entriesIn, Room, Appended, Entered, AddedTo, constraintOf, constraintsFrom, Translated}
+use Rattle.translation.specs.inner.Translated.{Entries, entries, entriesIn, Room, Appended, EntryAppended, AddedTo, constraintOf, constraintsFrom, Translated}
 use Rattle.translation.proofs.Records.{records-left, records-over, records-all, length-records, record-is, Numbering, numbering-start, numbering-turn, numbering-end, fresh-for}
 
 -- The atom that is added.
@@ -77,7 +77,7 @@ sources-set ss k j S low small =
     }
 
 pub stored : (k : ℕ) (hs ps ss ads : List ℕ) → Room 1 (entries k hs ps ss ads) → (x : TableEntry) → x .source < 128
-    → Entered (entries k hs ps ss ads) x (entries (k + 1) (set hs k (x .head)) (set ps k (x .pos)) (set ss k (x .source)) (set ads k (x .added)))
+    → EntryAppended (entries k hs ps ss ads) x (entries (k + 1) (set hs k (x .head)) (set ps k (x .pos)) (set ss k (x .source)) (set ads k (x .added)))
 unfolding entriesIn
 stored k hs ps ss ads R x small =
     let l = R .room in
@@ -139,7 +139,7 @@ module _ (r : SheetRecord) (source fresh k : ℕ) (K : k ≡ r .kind) (e : Entri
       pub rule-room : Room 1 e
       rule-room = let n = ap length one-rule in room-more 1 _ e (omega arith) R
 
-      pub rule-stored : (m : Entries) → Entered e (record { head = r .head; pos = r .pos; source = source; added = 0 }) m → Appended source (r .neg) e (recordRules fresh (recordIn r)) m
+      pub rule-stored : (m : Entries) → EntryAppended e (record { head = r .head; pos = r .pos; source = source; added = 0 }) m → Appended source (r .neg) e (recordRules fresh (recordIn r)) m
       rule-stored m A = rw one-rule (A .appended (r .neg))
 
     module _ (z : k ≡ 2) where
@@ -160,7 +160,7 @@ module _ (r : SheetRecord) (source fresh k : ℕ) (K : k ≡ r .kind) (e : Entri
       pub choice-room : Room 1 e
       choice-room = room-more 1 _ e (omega (arith, two)) R
 
-      pub choice-second : (a : ℕ) (m : Entries) → Entered e (record { head = r .head; pos = r .pos; source = source; added = a }) m → Room 1 m
+      pub choice-second : (a : ℕ) (m : Entries) → EntryAppended e (record { head = r .head; pos = r .pos; source = source; added = a }) m → Room 1 m
       choice-second a m A =
           let L = A .appended (r .neg) .long in
           let l = R .room in
@@ -168,8 +168,8 @@ module _ (r : SheetRecord) (source fresh k : ℕ) (K : k ≡ r .kind) (e : Entri
           record { heads = L .heads; pos = L .pos; sources = L .sources; added = L .added; room = omega (arith, two) }
 
       pub choice-stored : (a b h : ℕ) → AddedTo (r .neg) fresh a → h ≡ r .head → AddedTo (r .neg) h b → fresh < 64
-          → (m n : Entries) → Entered e (record { head = r .head; pos = r .pos; source = source; added = a }) m
-          → Entered m (record { head = fresh % 256; pos = r .pos; source = source; added = b }) n → Appended source (r .neg) e (recordRules fresh (recordIn r)) n
+          → (m n : Entries) → EntryAppended e (record { head = r .head; pos = r .pos; source = source; added = a }) m
+          → EntryAppended m (record { head = fresh % 256; pos = r .pos; source = source; added = b }) n → Appended source (r .neg) e (recordRules fresh (recordIn r)) n
       choice-stored a b h A H B l m n M N =
           let same : fresh % 256 ≡ fresh = omega arith in
           rw (two-rules a b A (rw H at B))
@@ -190,7 +190,7 @@ module _ (r : SheetRecord) (source fresh k : ℕ) (K : k ≡ r .kind) (e : Entri
       pub constraint-room : Room 1 e
       constraint-room = let n = ap length one-constraint in room-more 1 _ e (omega arith) R
 
-      pub constraint-stored : (m : Entries) → Entered e (record { head = r .head; pos = r .pos; source = source; added = 0 }) m → Appended source (r .neg) e (constraintOf (recordIn r)) m
+      pub constraint-stored : (m : Entries) → EntryAppended e (record { head = r .head; pos = r .pos; source = source; added = 0 }) m → Appended source (r .neg) e (constraintOf (recordIn r)) m
       constraint-stored m A = rw one-constraint (A .appended (r .neg))
 
     pub no-constraint : (k ≡ 1 → ⊥) → Appended source (r .neg) e (constraintOf (recordIn r)) e

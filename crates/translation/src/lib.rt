@@ -12,7 +12,7 @@ ghost use Rattle.program.specs.inner.Held.{Sources, tableOf};
 ghost use Rattle.sheet.specs.Sheet.{recordRules};
 ghost use Rattle.translation.specs.inner.Records.{table, recordIn, recordsIn, RecordAt, ChoicesIn, Expandable, FreshFor};
 ghost use Rattle.translation.specs.inner.Linked.{Linked, RecordLinked, EdgesIn};
-ghost use Rattle.translation.specs.inner.Translated.{entries, Room, Appended, Entered, AddedTo, constraintOf, Translated};
+ghost use Rattle.translation.specs.inner.Translated.{entries, Room, Appended, EntryAppended, AddedTo, constraintOf, Translated};
 
 // The number that comes behind a record of this kind, where each choice rule takes one.
 fn next_fresh(kind: usize, fresh: usize) -> usize
@@ -144,7 +144,7 @@ fn store(
     e: TableEntry,
 ) -> usize
     requires { ⌜ Room 1 (entries k (now heads) (now pos) (now sources) (now added)) × (e .source < 128) ⌝ }
-    ensures { λ r. ⌜ Entered (entries k (now (heads .entry)) (now (pos .entry)) (now (sources .entry)) (now (added .entry))) e
+    ensures { λ r. ⌜ EntryAppended (entries k (now (heads .entry)) (now (pos .entry)) (now (sources .entry)) (now (added .entry))) e
         (entries r (now (heads .exit)) (now (pos .exit)) (now (sources .exit)) (now (added .exit))) ⌝ }
 {
     heads[k] = e.head;

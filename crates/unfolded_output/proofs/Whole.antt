@@ -15,7 +15,7 @@ use Rattle.copies.specs.inner.Kept.{Marked, Kept}
 use Rattle.copies.specs.inner.Ready.{Ready, unfoldedIn}
 use Rattle.copies.specs.declared.EntryCopy.{EntryCopy}
 use Rattle.copies.proofs.Keeping.{bodies-number}
-use Rattle.copies.proofs.Emitting.{Emitting, emitting-start, emitting-end, emitting-entry, emitting-fresh, emitting-here, emitting-turn}
+use Rattle.copies.proofs.Emitting.{Emitting, emitting-start, emitting-end, emitting-entry, emitting-highest, emitting-here, emitting-turn}
 use Rattle.copies.proofs.Sizes.{copies-number, constraints-by-last, constraints-number}
 use Rattle.unfolded_output.specs.inner.Words.{bodiesWords, listedWords, entriesWords, keptWords, copiesWords}
 
@@ -28,14 +28,14 @@ module _ (t : ProgramTable) (q : List ℕ) (old : List ℕ) (at : ℕ) where
   total = copiesWords (unfoldedIn t q)
 
   abbrev pub CopiesWritten : ℕ → ℕ → List ℕ → ℕ → List ℕ → ℕ → Type 0
-  CopiesWritten i keeping latest fresh cur next = Emitting t q i keeping latest fresh (WordsLeft old at total cur next)
+  CopiesWritten i keeping latest highest cur next = Emitting t q i keeping latest highest (WordsLeft old at total cur next)
 
 module _ (t : ProgramTable) (names sets q : List ℕ) (R : Ready t names sets q) (old : List ℕ) (at : ℕ) where
   pub copies-start : CopiesWritten t q old at 3 0 (replicate 64 0) (t .atoms) old at
   unfolding copiesWords
   copies-start = emitting-start t names sets q R (WordsLeft old at (total t q old at) old at) (record { rest = left-start old at (total t q old at) _ refl })
 
-  module _ (i keeping : ℕ) (latest : List ℕ) (fresh : ℕ) (cur : List ℕ) (next : ℕ) (E : CopiesWritten t q old at i keeping latest fresh cur next) where
+  module _ (i keeping : ℕ) (latest : List ℕ) (highest : ℕ) (cur : List ℕ) (next : ℕ) (E : CopiesWritten t q old at i keeping latest highest cur next) where
     abbrev Rest : List Copy → Type 0
     Rest = WordsLeft old at (total t q old at) cur next
 
@@ -44,16 +44,16 @@ module _ (t : ProgramTable) (names sets q : List ℕ) (R : Ready t names sets q)
 
     pub copies-end : length q ≤ i → Wrote old at (copiesWords (unfoldedIn t q)) cur next
     unfolding flatMap
-    copies-end l = left-end old at (total t q old at) cur [] next (emitting-end t names sets q R i keeping latest fresh Rest E l .rest) refl
+    copies-end l = left-end old at (total t q old at) cur [] next (emitting-end t names sets q R i keeping latest highest Rest E l .rest) refl
 
     module _ (within : i < length q) where
       pub copies-entry : EntryAt names q i
-      copies-entry = emitting-entry t names sets q R i keeping latest fresh Rest E within
+      copies-entry = emitting-entry t names sets q R i keeping latest highest Rest E within
 
-      pub copies-fresh : fresh < 4294967295
-      copies-fresh = emitting-fresh t names sets q R i keeping latest fresh Rest E within
+      pub copies-highest : highest < 4294967295
+      copies-highest = emitting-highest t names sets q R i keeping latest highest Rest E within
 
-      module _ (c : EntryCopy) (M : Made q i names sets fresh c) (list : List ℕ) (k : ℕ) (K : Kept (t .heads) (t .pos) (t .rules) (c .atom) (c .component) keeping list k)
+      module _ (c : EntryCopy) (M : Made q i names sets highest c) (list : List ℕ) (k : ℕ) (K : Kept (t .heads) (t .pos) (t .rules) (c .atom) (c .component) keeping list k)
           (lasts vars : List ℕ) (F : Values last lasts) (O : Overlaid (c .component) latest lasts vars) where
         abbrev copy : Copy
         copy = record { atom = c .atom; var = c .var; kept = bodiesBy (t .pos) (t .neg) (t .added) vars list k }
@@ -68,13 +68,13 @@ module _ (t : ProgramTable) (names sets q : List ℕ) (R : Ready t names sets q)
 
         pub copies-room : at + length (copiesWords (unfoldedIn t q)) ≤ length old → next + length (keptWords (t .pos) (t .neg) (t .added) vars (c .var) list k) ≤ length cur
         copies-room h =
-            let S = emitting-here t names sets q R i keeping latest fresh Rest E within c M list k K lasts vars F O in
+            let S = emitting-here t names sets q R i keeping latest highest Rest E within c M list k K lasts vars F O in
             left-room old at (total t q old at) cur here _ _ next (S .holds .rest) (step (S .copies)) h
 
         pub copies-turn : (marked : ℕ) → Marked keeping (c .atom) k marked → (new : List ℕ) (behind : ℕ) → Wrote cur next (keptWords (t .pos) (t .neg) (t .added) vars (c .var) list k) new behind
-            → CopiesWritten t q old at (i + 1) marked (set latest (c .atom) (c .var)) (c .fresh) new behind
+            → CopiesWritten t q old at (i + 1) marked (set latest (c .atom) (c .var)) (c .highest) new behind
         copies-turn marked W new behind U =
-            emitting-turn t names sets q R i keeping latest fresh Rest E within c M list k K lasts vars F O marked (WordsLeft old at (total t q old at) new behind) W
+            emitting-turn t names sets q R i keeping latest highest Rest E within c M list k K lasts vars F O marked (WordsLeft old at (total t q old at) new behind) W
             (λ cs L. record { rest = left-turn old at (total t q old at) cur new here _ _ next behind (L .rest) (step cs) U })
 
 -- The whole.

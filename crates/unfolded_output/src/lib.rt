@@ -201,11 +201,11 @@ fn put_copies<'a>(
     let mut latest = [0u32; 64];
     let mut entries = [0u8; 192];
     let mut keeping: u64 = 0;
-    let mut fresh = size.atoms as u32;
+    let mut highest = size.atoms as u32;
     let mut next = at;
     let mut i = 3;
     while i < q.len() {
-        let copy = copy_at(q, i, names, sets, &table.places, fresh);
+        let copy = copy_at(q, i, names, sets, &table.places, highest);
         let a = copy.atom;
         let var = copy.var;
         let kept = kept_rules(
@@ -234,7 +234,7 @@ fn put_copies<'a>(
         );
         latest[a] = var;
         keeping = mark(keeping, a, kept);
-        fresh = copy.fresh;
+        highest = copy.highest;
         i += 1;
     }
     next

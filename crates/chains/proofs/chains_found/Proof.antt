@@ -1,5 +1,5 @@
 -- `chains::chains_found` meets its contract, one law for each way through it.
-use Rattle.chains.proofs.Turning.{filled-tested}
+use Rattle.chains.proofs.Testing.{filled-tested}
 use borrow.Author.Needs.{needs}
 use Rattle.chains.proofs.chains_found.Statement.{statement}
 use Rattle.chains.proofs.chains_found.Tie as tie

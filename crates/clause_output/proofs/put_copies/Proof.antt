@@ -1,7 +1,7 @@
 -- `clause_output::put_copies` meets its contract, one law for each way through it.
 use borrow.Author.Needs.{needs}
 use Rattle.program.specs.inner.Held.{tableOf}
-use Rattle.clause_output.proofs.Whole.{ClausesWritten, copies-start, copies-entry, copies-fresh, copies-rule, copies-var, copies-small, copies-room, copies-turn, copies-length, copies-end}
+use Rattle.clause_output.proofs.Whole.{ClausesWritten, copies-start, copies-entry, copies-highest, copies-rule, copies-var, copies-small, copies-room, copies-turn, copies-length, copies-end}
 use Rattle.copies.proofs.Going.{ready-below}
 use lib.ListN.{length}
 use mathlib.Core.Path.{_≡_}
@@ -11,18 +11,18 @@ use Rattle.clause_output.proofs.put_copies.Statement.{statement}
 use Rattle.clause_output.proofs.put_copies.Tie as tie
 
 abbrev Inv-loop : tie.InvT-loop
-Inv-loop out₀ size heads pos sources neg added q names sets lasts table latest₀ entries₀ keeping₀ fresh₀ ends₀ i₀ out latest entries keeping fresh ends i =
-    ClausesWritten (tableOf size heads pos sources neg added) q out₀ i keeping latest fresh out ends × (length entries ≡ 192)
+Inv-loop out₀ size heads pos sources neg added q names sets lasts table latest₀ entries₀ keeping₀ highest₀ ends₀ i₀ out latest entries keeping highest ends i =
+    ClausesWritten (tableOf size heads pos sources neg added) q out₀ i keeping latest highest out ends × (length entries ≡ 192)
 
 abbrev μ-loop : tie.MeasureT-loop
-μ-loop out₀ size heads pos sources neg added q names sets lasts table latest₀ entries₀ keeping₀ fresh₀ ends₀ i₀ out latest entries keeping fresh ends i =
+μ-loop out₀ size heads pos sources neg added q names sets lasts table latest₀ entries₀ keeping₀ highest₀ ends₀ i₀ out latest entries keeping highest ends i =
     length q - i
 
 last-places-requires : tie.Need-last-places-requires Inv-loop μ-loop
 last-places-requires c κs = (search (needs, ready-below), search needs, search needs)
 
-cast-fresh : tie.Need-cast-fresh Inv-loop μ-loop
-cast-fresh c = search needs
+cast-highest : tie.Need-cast-highest Inv-loop μ-loop
+cast-highest c = search needs
 
 sub-t26 : tie.Need-sub-t26 Inv-loop μ-loop
 sub-t26 c = search needs
@@ -34,7 +34,7 @@ loop-holds : tie.Need-loop-holds Inv-loop μ-loop
 loop-holds c = (search (needs, copies-start), search needs)
 
 copy-at-requires : tie.Need-copy-at-requires Inv-loop μ-loop
-copy-at-requires c κs = search (needs, copies-entry, copies-fresh)
+copy-at-requires c κs = search (needs, copies-entry, copies-highest)
 
 kept-rules-requires : tie.Need-kept-rules-requires Inv-loop μ-loop
 kept-rules-requires c κs = search needs
@@ -96,7 +96,7 @@ put-copies-spec =
     Inv-loop
     μ-loop
     last-places-requires
-    cast-fresh
+    cast-highest
     sub-t26
     cast-t27
     loop-holds

@@ -33,4 +33,4 @@ pub record Made (q : List ℕ) (i : ℕ) (names sets : List ℕ) (so-far : ℕ) 
   pub low : r .atom < 64
   pub component : r .component ≡ componentSet names sets (r .atom)
   pub var : r .var ≡ cond (again q i) (suc so-far) (suc (getD q i 0))
-  pub fresh : r .fresh ≡ cond (again q i) (suc so-far) so-far
+  pub highest : r .highest ≡ cond (again q i) (suc so-far) so-far

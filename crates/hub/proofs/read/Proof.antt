@@ -1,6 +1,5 @@
 -- `hub::read` meets its contract, one law for each way through it.
 use borrow.Author.Needs.{needs}
-use Rattle.hub.proofs.Laws.{supported}
 use Rattle.hub.proofs.read.Statement.{statement}
 use Rattle.hub.proofs.read.Tie as tie
 
@@ -8,10 +7,10 @@ limits-requires : tie.Need-limits-requires
 limits-requires c κs = search needs
 
 read-requires : tie.Need-read-requires
-read-requires c κs = search (needs, supported)
+read-requires c κs = search needs
 
 returns : tie.Need-returns
-returns c = rw (c .before .limits .ensures) at (c .read .ensures)
+returns c = rw (c .before .limits .ensures .0) at (c .read .ensures)
 
 pub read-spec : {M : Type 1} → statement M
 read-spec = tie.close (tie.spec limits-requires read-requires returns)

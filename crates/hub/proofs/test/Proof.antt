@@ -1,6 +1,8 @@
 -- `hub::test` meets its contract, one law for each way through it.
 use borrow.Author.Needs.{needs}
-use Rattle.hub.proofs.Laws.{supported, table-room}
+use mathlib.Core.Path.{refl}
+use Rattle.operations.proofs.Requirements.{table-for}
+use Rattle.hub.specs.Hub.{hub}
 use Rattle.hub.proofs.test.Statement.{statement}
 use Rattle.hub.proofs.test.Tie as tie
 
@@ -11,10 +13,10 @@ slice-aggregate-test : tie.Need-slice-aggregate-test
 slice-aggregate-test c = search needs
 
 test-requires : tie.Need-test-requires
-test-requires c κs = (search (needs, supported), table-room _ _ (c .before .limits .ensures) (search needs))
+test-requires c κs = (search needs, table-for _ hub 16 _ (c .before .limits .ensures .0) refl (search needs))
 
 returns : tie.Need-returns
-returns c = rw (c .before .before .before .limits .ensures) at (c .before .test .ensures)
+returns c = rw (c .before .before .before .limits .ensures .0) at (c .before .test .ensures)
 
 pub test-spec : {M : Type 1} → statement M
 test-spec = tie.close (tie.spec limits-requires slice-aggregate-test test-requires returns)

@@ -1,6 +1,8 @@
 -- `hub::unfolded` meets its contract, one law for each way through it.
 use borrow.Author.Needs.{needs}
-use Rattle.hub.proofs.Laws.{supported, table-room}
+use mathlib.Core.Path.{refl}
+use Rattle.operations.proofs.Requirements.{table-for}
+use Rattle.hub.specs.Hub.{hub}
 use Rattle.hub.proofs.unfolded.Statement.{statement}
 use Rattle.hub.proofs.unfolded.Tie as tie
 
@@ -11,13 +13,13 @@ slice-aggregate-unfolded : tie.Need-slice-aggregate-unfolded
 slice-aggregate-unfolded c = search needs
 
 unfolded-requires : tie.Need-unfolded-requires
-unfolded-requires c κs = (search (needs, supported), table-room _ _ (c .before .before .limits .ensures) (search needs))
+unfolded-requires c κs = (search needs, table-for _ hub 16 _ (c .before .before .limits .ensures .0) refl (search needs))
 
 same-length : tie.Need-same-length
 same-length c = search needs
 
 returns : tie.Need-returns
-returns c = rw (c .before .before .before .before .before .before .limits .ensures) at (c .before .before .before .unfolded .ensures)
+returns c = rw (c .before .before .before .before .before .before .limits .ensures .0) at (c .before .before .before .unfolded .ensures)
 
 pub unfolded-spec : {M : Type 1} → statement M
 unfolded-spec = tie.close (tie.spec limits-requires slice-aggregate-unfolded unfolded-requires same-length returns)

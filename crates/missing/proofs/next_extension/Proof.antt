@@ -1,5 +1,5 @@
 -- `missing::next_extension` meets its contract, one law for each way through it.
-use Rattle.chains.proofs.Places.{atom-low}
+use Rattle.chain_rows.proofs.Places.{atom-low}
 use Rattle.missing.proofs.Extending.{extension-some, extension-next}
 use borrow.Author.Needs.{needs}
 use Rattle.missing.proofs.next_extension.Statement.{statement}

@@ -1,7 +1,7 @@
 -- `missing::put_missing` meets its contract, one law for each way through it.
 use Rattle.bits.proofs.Listing.{listed-low, listed-rising}
 use Rattle.chains.proofs.Components.{places-roomy}
-use Rattle.missing.proofs.Starts.{start-fits, some-lacks, chain-written}
+use Rattle.missing.proofs.Written.{start-fits, some-lacks, chain-written}
 use borrow.Author.Needs.{needs}
 use Rattle.missing.proofs.put_missing.Statement.{statement}
 use Rattle.missing.proofs.put_missing.Tie as tie

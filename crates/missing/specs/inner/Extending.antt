@@ -9,8 +9,9 @@ use Rattle.unfolding.specs.Chain.{Chain}
 use Rattle.unfolding.specs.Missing.{precedes}
 use Rattle.bits.specs.inner.Sets.{has}
 use Rattle.bits.specs.inner.Visited.{listed}
-use Rattle.chains.specs.inner.Subsets.{Setting, AtPlaces}
+use Rattle.chain_rows.specs.inner.Subsets.{Setting, AtPlaces}
 use Rattle.writer.specs.inner.Wrote.{Wrote}
+use Rattle.positions.specs.inner.Positions.{Position}
 use Rattle.missing.specs.declared.Extension.{Extension}
 
 -- A chain of m atoms that starts at a, its atoms all of X.
@@ -29,18 +30,6 @@ pub record FirstMissing (P : Program) (s : List ℕ) (X : ℕ → Type 0) (a m :
   pub within : Within P X a m w
   pub lacking : Sublistᴰ (a ∷ w) s → ⊥
   pub first : (v : List ℕ) → Within P X a m v → (Sublistᴰ (a ∷ v) s → ⊥) → precedes (a ∷ v) (a ∷ w) ≡ false
-
--- A position in a sequence of at most 640 entries: behind its first three bytes, and at its end at most.
-pub record Position (q : List ℕ) (i : ℕ) : Type 0 where
-  pub start : 3 ≤ i
-  pub inside : i ≤ length q
-  pub short : length q ≤ 643
-
--- r is the position in q behind the first a from a position on, or the end.
-pub record Behind (q : List ℕ) (from a r : ℕ) : Type 0 where
-  pub position : Position q r
-  pub onward : (v : List ℕ) → Sublistᴰ (a ∷ v) (drop from q) → Sublistᴰ v (drop r q)
-  pub back : (v : List ℕ) → List·Memᴰ a (drop from q) → Sublistᴰ v (drop r q) → Sublistᴰ (a ∷ v) (drop from q)
 
 -- An extension's numbers are in their bounds, and its place is one of the unused ones.
 pub record Fits (k : ℕ) (q : List ℕ) (L : Extension) : Type 0 where

@@ -1,6 +1,5 @@
 -- `office::body_slice` meets its contract, one law for each way through it.
 use borrow.Author.Needs.{needs}
-use Rattle.office.proofs.Laws.{supported}
 use Rattle.office.proofs.body_slice.Statement.{statement}
 use Rattle.office.proofs.body_slice.Tie as tie
 
@@ -8,10 +7,10 @@ limits-requires : tie.Need-limits-requires
 limits-requires c κs = search needs
 
 body-slice-requires : tie.Need-body-slice-requires
-body-slice-requires c κs = search (needs, supported)
+body-slice-requires c κs = search needs
 
 returns : tie.Need-returns
-returns c = rw (c .before .limits .ensures) at (c .body-slice .ensures)
+returns c = rw (c .before .limits .ensures .0) at (c .body-slice .ensures)
 
 pub body-slice-spec : {M : Type 1} → statement M
 body-slice-spec = tie.close (tie.spec limits-requires body-slice-requires returns)

@@ -1,6 +1,5 @@
 -- `office::components` meets its contract, one law for each way through it.
 use borrow.Author.Needs.{needs}
-use Rattle.office.proofs.Laws.{supported}
 use Rattle.office.proofs.components.Statement.{statement}
 use Rattle.office.proofs.components.Tie as tie
 
@@ -8,13 +7,13 @@ limits-requires : tie.Need-limits-requires
 limits-requires c κs = search needs
 
 components-requires : tie.Need-components-requires
-components-requires c κs = search (needs, supported)
+components-requires c κs = search needs
 
 same-length : tie.Need-same-length
 same-length c = search needs
 
 returns : tie.Need-returns
-returns c = rw (c .before .before .before .before .limits .ensures) at (c .before .before .components .ensures)
+returns c = rw (c .before .before .before .before .limits .ensures .0) at (c .before .before .components .ensures)
 
 pub components-spec : {M : Type 1} → statement M
 components-spec = tie.close (tie.spec limits-requires components-requires same-length returns)

@@ -1,6 +1,5 @@
 -- `office::default_sequence` meets its contract, one law for each way through it.
 use borrow.Author.Needs.{needs}
-use Rattle.office.proofs.Laws.{supported}
 use Rattle.office.proofs.default_sequence.Statement.{statement}
 use Rattle.office.proofs.default_sequence.Tie as tie
 
@@ -8,13 +7,13 @@ limits-requires : tie.Need-limits-requires
 limits-requires c κs = search needs
 
 default-sequence-requires : tie.Need-default-sequence-requires
-default-sequence-requires c κs = search (needs, supported)
+default-sequence-requires c κs = search needs
 
 same-length : tie.Need-same-length
 same-length c = search needs
 
 returns : tie.Need-returns
-returns c = rw (c .before .before .before .before .limits .ensures) at (c .before .before .default-sequence .ensures)
+returns c = rw (c .before .before .before .before .limits .ensures .0) at (c .before .before .default-sequence .ensures)
 
 pub default-sequence-spec : {M : Type 1} → statement M
 default-sequence-spec =

@@ -8,8 +8,8 @@ use Rattle.lists.specs.Lists.{member, range}
 use Rattle.bits.specs.inner.Sets.{has, Gathered}
 use Rattle.bits.specs.inner.Visited.{listed}
 use Rattle.sheet.specs.Questions.{ask}
-use Rattle.sheet.specs.Format.{end, listFits, listsFit, recordQuestions, recordsQuestions, atomsByte, recordsByte}
-use Rattle.sheet.specs.inner.Walk.{formQuestions}
+use Rattle.sheet.specs.Format.{end, listFits, listsFit, atomsByte, recordsByte}
+use Rattle.sheet.specs.inner.Walk.{recordRefusal, recordsRefusal, formRefusal}
 use Rattle.sheet.specs.Sheet.{Record, recordAt, recordsFrom}
 use Rattle.sheet.specs.declared.Limits.{Limits}
 use Rattle.reader.specs.declared.Gather.{Gather}
@@ -52,7 +52,7 @@ pub record ListsRead (n : ℕ) (s : List ℕ) (at : ℕ) (r : Entry) : Type 0 wh
 
 -- Questions 4 to 6 of a record, and what is read.
 pub record EntryRead (n : ℕ) (s : List ℕ) (at : ℕ) (r : Entry) : Type 0 where
-  pub says : r .refusal ≡ recordQuestions n s at
+  pub says : r .refusal ≡ recordRefusal n s at
   pub taken : r .refusal ≡ 0 → Taken s at r
 
 -- A header that passes: its numbers, and what is left of questions 1 to 6.
@@ -62,11 +62,11 @@ pub record HeaderPassed (L : Limits) (s : List ℕ) (r : Header) : Type 0 where
   pub records : r .records ≡ recordsByte s
   pub low : r .atoms ≤ L .atoms
   pub few : r .records ≤ L .records
-  pub rest : formQuestions L s ≡ recordsQuestions (r .records) (r .atoms) s 5
+  pub rest : formRefusal L s ≡ recordsRefusal (r .records) (r .atoms) s 5
 
 -- Questions 1 to 3.
 pub record HeaderRead (L : Limits) (s : List ℕ) (r : Header) : Type 0 where
-  pub refused : (r .refusal ≡ 0 → ⊥) → r .refusal ≡ formQuestions L s
+  pub refused : (r .refusal ≡ 0 → ⊥) → r .refusal ≡ formRefusal L s
   pub passed : r .refusal ≡ 0 → HeaderPassed L s r
 
 -- Arrays of 128.
@@ -78,7 +78,7 @@ pub record RecordArrays (ks hs ps ns : List ℕ) : Type 0 where
 
 -- Questions 4 to 6 of m records, and the records as they are stored.
 pub record RecordsRead (n m : ℕ) (s ks hs ps ns : List ℕ) (r : ℕ) : Type 0 where
-  pub says : r ≡ recordsQuestions m n s 5
+  pub says : r ≡ recordsRefusal m n s 5
   pub stored : r ≡ 0 → recordsAt ks hs ps ns 0 m ≡ recordsFrom m s 5
   pub exact : r ≡ 0 → ExactSets m ps ns
   pub long : RecordArrays ks hs ps ns

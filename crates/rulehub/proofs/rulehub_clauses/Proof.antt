@@ -1,6 +1,6 @@
 -- `rulehub::rulehub_clauses` meets its contract: its answer is stored.
 use borrow.Author.Needs.{needs}
-use Rattle.interface.proofs.Returning.{clauses-returned}
+use Rattle.interface.proofs.Returning.{returned}
 use Rattle.rulehub.proofs.rulehub_clauses.Statement.{statement}
 use Rattle.rulehub.proofs.rulehub_clauses.Tie as tie
 
@@ -14,7 +14,7 @@ same-length : tie.Need-same-length
 same-length c = search needs
 
 returns : tie.Need-returns
-returns c = search (needs, clauses-returned)
+returns c = search (needs, returned)
 
 pub rulehub-clauses-spec : {M : Type 1} → statement M
 rulehub-clauses-spec =

@@ -1,6 +1,6 @@
 -- `rulehub::rulehub_count` meets its contract: its answer is stored.
 use borrow.Author.Needs.{needs}
-use Rattle.interface.proofs.Returning.{count-returned}
+use Rattle.interface.proofs.Returning.{returned}
 use Rattle.rulehub.proofs.rulehub_count.Statement.{statement}
 use Rattle.rulehub.proofs.rulehub_count.Tie as tie
 
@@ -11,7 +11,7 @@ store-count-requires : tie.Need-store-count-requires
 store-count-requires c κs = search needs
 
 returns : tie.Need-returns
-returns c = search (needs, count-returned)
+returns c = search (needs, returned)
 
 pub rulehub-count-spec : {M : Type 1} → statement M
 rulehub-count-spec = tie.close (tie.spec count-requires store-count-requires returns)

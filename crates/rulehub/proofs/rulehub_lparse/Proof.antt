@@ -1,6 +1,6 @@
 -- `rulehub::rulehub_lparse` meets its contract: its answer is stored.
 use borrow.Author.Needs.{needs}
-use Rattle.interface.proofs.Returning.{lparse-returned}
+use Rattle.interface.proofs.Returning.{returned}
 use Rattle.rulehub.proofs.rulehub_lparse.Statement.{statement}
 use Rattle.rulehub.proofs.rulehub_lparse.Tie as tie
 
@@ -14,7 +14,7 @@ same-length : tie.Need-same-length
 same-length c = search needs
 
 returns : tie.Need-returns
-returns c = search (needs, lparse-returned)
+returns c = search (needs, returned)
 
 pub rulehub-lparse-spec : {M : Type 1} → statement M
 rulehub-lparse-spec =

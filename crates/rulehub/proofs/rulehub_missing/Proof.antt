@@ -1,6 +1,6 @@
 -- `rulehub::rulehub_missing` meets its contract: its answer is stored.
 use borrow.Author.Needs.{needs}
-use Rattle.interface.proofs.Returning.{missing-returned}
+use Rattle.interface.proofs.Returning.{returned}
 use Rattle.rulehub.proofs.rulehub_missing.Statement.{statement}
 use Rattle.rulehub.proofs.rulehub_missing.Tie as tie
 
@@ -14,7 +14,7 @@ same-length : tie.Need-same-length
 same-length c = search needs
 
 returns : tie.Need-returns
-returns c = search (needs, missing-returned)
+returns c = search (needs, returned)
 
 pub rulehub-missing-spec : {M : Type 1} → statement M
 rulehub-missing-spec =

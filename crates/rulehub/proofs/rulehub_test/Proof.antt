@@ -1,6 +1,6 @@
 -- `rulehub::rulehub_test` meets its contract: its answer is stored.
 use borrow.Author.Needs.{needs}
-use Rattle.interface.proofs.Returning.{test-returned}
+use Rattle.interface.proofs.Returning.{returned}
 use Rattle.rulehub.proofs.rulehub_test.Statement.{statement}
 use Rattle.rulehub.proofs.rulehub_test.Tie as tie
 
@@ -11,7 +11,7 @@ store-test-requires : tie.Need-store-test-requires
 store-test-requires c κs = search needs
 
 returns : tie.Need-returns
-returns c = search (needs, test-returned)
+returns c = search (needs, returned)
 
 pub rulehub-test-spec : {M : Type 1} → statement M
 rulehub-test-spec = tie.close (tie.spec test-requires store-test-requires returns)

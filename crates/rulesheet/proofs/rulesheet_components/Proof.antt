@@ -1,6 +1,6 @@
 -- `rulesheet::rulesheet_components` meets its contract: its answer is stored.
 use borrow.Author.Needs.{needs}
-use Rattle.interface.proofs.Returning.{components-returned}
+use Rattle.interface.proofs.Returning.{returned}
 use Rattle.rulesheet.proofs.rulesheet_components.Statement.{statement}
 use Rattle.rulesheet.proofs.rulesheet_components.Tie as tie
 
@@ -14,7 +14,7 @@ same-length : tie.Need-same-length
 same-length c = search needs
 
 returns : tie.Need-returns
-returns c = search (needs, components-returned)
+returns c = search (needs, returned)
 
 pub rulesheet-components-spec : {M : Type 1} → statement M
 rulesheet-components-spec =

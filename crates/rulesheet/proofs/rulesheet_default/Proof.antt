@@ -1,6 +1,6 @@
 -- `rulesheet::rulesheet_default` meets its contract: its answer is stored.
 use borrow.Author.Needs.{needs}
-use Rattle.interface.proofs.Returning.{default-returned}
+use Rattle.interface.proofs.Returning.{returned}
 use Rattle.rulesheet.proofs.rulesheet_default.Statement.{statement}
 use Rattle.rulesheet.proofs.rulesheet_default.Tie as tie
 
@@ -14,7 +14,7 @@ same-length : tie.Need-same-length
 same-length c = search needs
 
 returns : tie.Need-returns
-returns c = search (needs, default-returned)
+returns c = search (needs, returned)
 
 pub rulesheet-default-spec : {M : Type 1} → statement M
 rulesheet-default-spec =

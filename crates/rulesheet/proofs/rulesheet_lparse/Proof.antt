@@ -1,6 +1,6 @@
 -- `rulesheet::rulesheet_lparse` meets its contract: its answer is stored.
 use borrow.Author.Needs.{needs}
-use Rattle.interface.proofs.Returning.{lparse-returned}
+use Rattle.interface.proofs.Returning.{returned}
 use Rattle.rulesheet.proofs.rulesheet_lparse.Statement.{statement}
 use Rattle.rulesheet.proofs.rulesheet_lparse.Tie as tie
 
@@ -14,7 +14,7 @@ same-length : tie.Need-same-length
 same-length c = search needs
 
 returns : tie.Need-returns
-returns c = search (needs, lparse-returned)
+returns c = search (needs, returned)
 
 pub rulesheet-lparse-spec : {M : Type 1} → statement M
 rulesheet-lparse-spec =

@@ -1,6 +1,6 @@
 -- `rulesheet::rulesheet_missing` meets its contract: its answer is stored.
 use borrow.Author.Needs.{needs}
-use Rattle.interface.proofs.Returning.{missing-returned}
+use Rattle.interface.proofs.Returning.{returned}
 use Rattle.rulesheet.proofs.rulesheet_missing.Statement.{statement}
 use Rattle.rulesheet.proofs.rulesheet_missing.Tie as tie
 
@@ -14,7 +14,7 @@ same-length : tie.Need-same-length
 same-length c = search needs
 
 returns : tie.Need-returns
-returns c = search (needs, missing-returned)
+returns c = search (needs, returned)
 
 pub rulesheet-missing-spec : {M : Type 1} → statement M
 rulesheet-missing-spec =

@@ -1,6 +1,6 @@
 -- `rulesheet::rulesheet_unfolded` meets its contract: its answer is stored.
 use borrow.Author.Needs.{needs}
-use Rattle.interface.proofs.Returning.{unfolded-returned}
+use Rattle.interface.proofs.Returning.{returned}
 use Rattle.rulesheet.proofs.rulesheet_unfolded.Statement.{statement}
 use Rattle.rulesheet.proofs.rulesheet_unfolded.Tie as tie
 
@@ -14,7 +14,7 @@ same-length : tie.Need-same-length
 same-length c = search needs
 
 returns : tie.Need-returns
-returns c = search (needs, unfolded-returned)
+returns c = search (needs, returned)
 
 pub rulesheet-unfolded-spec : {M : Type 1} → statement M
 rulesheet-unfolded-spec =

@@ -5,15 +5,22 @@ use mathlib.Core.Path.{_≡_}
 use Prim.Native.Nat.{ℕ, _-_, _≤_, _<_}
 use lib.ListN.{length}
 use Rattle.asp.specs.Program.{bodyBelow}
-use Rattle.sheet.specs.Questions.{ask, _then_}
-use Rattle.sheet.specs.Format.{size, positives, end, atomsByte, recordsByte, opens, measured, limited, kindFits, kindPasses, listsFit, recordsQuestions}
+use Rattle.sheet.specs.Questions.{firstRefusal}
+use Rattle.sheet.specs.Format.{size, positives, end, kindFits, kindPasses, listsFit, recordQuestions, recordsQuestions, formQuestions}
 use Rattle.sheet.specs.Sheet.{Record, recordAt, recordsFrom}
 use Rattle.sheet.specs.declared.Limits.{Limits}
 
--- Questions 1 to 6.
-unfoldable pub formQuestions : Limits → List ℕ → ℕ
-formQuestions L s =
-    ask (opens s) 1 then ask (measured s) 2 then ask (limited L s) 3 then recordsQuestions (recordsByte s) (atomsByte s) s 5
+-- The refusal of questions 4 to 6 of a record.
+abbrev pub recordRefusal : ℕ → List ℕ → ℕ → ℕ
+recordRefusal n s at = firstRefusal (recordQuestions n s at)
+
+-- Of k records, and of what remains.
+abbrev pub recordsRefusal : ℕ → ℕ → List ℕ → ℕ → ℕ
+recordsRefusal k n s at = firstRefusal (recordsQuestions k n s at)
+
+-- Of questions 1 to 6.
+abbrev pub formRefusal : Limits → List ℕ → ℕ
+formRefusal L s = firstRefusal (formQuestions L s)
 
 -- What a record that passes question 4 is known by.
 pub record Complete (s : List ℕ) (at : ℕ) : Type 0 where
@@ -30,7 +37,7 @@ pub record Known (s : List ℕ) (n at : ℕ) : Type 0 where
 
 -- The records from `at` on, `left` of them, have passed.
 pub record Walk (s : List ℕ) (n left at : ℕ) : Type 0 where
-  pub passed : recordsQuestions left n s at ≡ 0
+  pub passed : recordsRefusal left n s at ≡ 0
 
 -- One record further: where it ends, what is known of it, and what is left.
 pub record Stepped (s : List ℕ) (n left at r : ℕ) : Type 0 where

@@ -42,7 +42,7 @@ pub record Appended (source set : ℕ) (e : Entries) (more : List Rule) (r : Ent
   pub size : r .k ≡ e .k + length more
 
 -- The entries e, with the entry x behind them, whatever stands at its source.
-pub record Entered (e : Entries) (x : TableEntry) (r : Entries) : Type 0 where
+pub record EntryAppended (e : Entries) (x : TableEntry) (r : Entries) : Type 0 where
   pub appended : (set : ℕ) → Appended (x .source) set e (ruleOf (x .head) (x .pos) set (x .added) ∷ []) r
 
 -- What is entered for the atom a, which is added to the negative ones.

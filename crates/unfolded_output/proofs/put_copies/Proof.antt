@@ -4,31 +4,31 @@ use native.Mathlib.Omega.{arith}
 use Rattle.copies.proofs.Going.{ready-below}
 use borrow.Author.Needs.{needs}
 use Rattle.program.specs.inner.Held.{tableOf}
-use Rattle.unfolded_output.proofs.Whole.{CopiesWritten, copies-start, copies-entry, copies-fresh, copies-room, copies-turn, copies-length, copies-end}
+use Rattle.unfolded_output.proofs.Whole.{CopiesWritten, copies-start, copies-entry, copies-highest, copies-room, copies-turn, copies-length, copies-end}
 use lib.ListN.{length}
 use Prim.Native.Nat.{_-_}
 use Rattle.unfolded_output.proofs.put_copies.Statement.{statement}
 use Rattle.unfolded_output.proofs.put_copies.Tie as tie
 
 abbrev Inv-loop : tie.InvT-loop
-Inv-loop out₀ at size heads pos sources neg added q names sets lasts table latest₀ entries₀ keeping₀ fresh₀ next₀ i₀ out latest entries keeping fresh next i =
-    CopiesWritten (tableOf size heads pos sources neg added) q out₀ at i keeping latest fresh out next × (length entries ≡ 192)
+Inv-loop out₀ at size heads pos sources neg added q names sets lasts table latest₀ entries₀ keeping₀ highest₀ next₀ i₀ out latest entries keeping highest next i =
+    CopiesWritten (tableOf size heads pos sources neg added) q out₀ at i keeping latest highest out next × (length entries ≡ 192)
 
 abbrev μ-loop : tie.MeasureT-loop
-μ-loop out₀ at size heads pos sources neg added q names sets lasts table latest₀ entries₀ keeping₀ fresh₀ next₀ i₀ out latest entries keeping fresh next i =
+μ-loop out₀ at size heads pos sources neg added q names sets lasts table latest₀ entries₀ keeping₀ highest₀ next₀ i₀ out latest entries keeping highest next i =
     length q - i
 
 last-places-requires : tie.Need-last-places-requires Inv-loop μ-loop
 last-places-requires c κs = (search (needs, ready-below), search needs, search needs)
 
-cast-fresh : tie.Need-cast-fresh Inv-loop μ-loop
-cast-fresh c = search needs
+cast-highest : tie.Need-cast-highest Inv-loop μ-loop
+cast-highest c = search needs
 
 loop-holds : tie.Need-loop-holds Inv-loop μ-loop
 loop-holds c = (search (needs, copies-start), search needs)
 
 copy-at-requires : tie.Need-copy-at-requires Inv-loop μ-loop
-copy-at-requires c κs = search (needs, copies-entry, copies-fresh)
+copy-at-requires c κs = search (needs, copies-entry, copies-highest)
 
 kept-rules-requires : tie.Need-kept-rules-requires Inv-loop μ-loop
 kept-rules-requires c κs = search needs
@@ -83,7 +83,7 @@ put-copies-spec =
     Inv-loop
     μ-loop
     last-places-requires
-    cast-fresh
+    cast-highest
     loop-holds
     copy-at-requires
     kept-rules-requires

@@ -1,3 +1,0 @@
--- What inner functions promise: no public promise rests on it.
-pub mod Places
-pub mod Asked

@@ -1,5 +1,0 @@
-pub mod Calls
-pub mod Demands
-pub mod Services
-pub mod Lengthened
-pub mod Claims

@@ -1,0 +1,4 @@
+pub mod Demands
+pub mod Services
+pub mod Lengthened
+pub mod Claims
