@@ -1,3 +1,2 @@
-pub mod Sizes
-pub mod Rules
+pub mod Backs
 pub mod Whole

@@ -1,2 +1,2 @@
 -- What inner functions promise: no public promise rests on it.
-pub mod Ends
+pub mod Words

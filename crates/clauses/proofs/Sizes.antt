@@ -10,7 +10,7 @@ use Rattle.unfolding.specs.Unfolded.{Unfolded, unfolded}
 use Rattle.unfolding.specs.Clauses.{Clause, copiesClauses, constraintClause, clauses, variables, signed, clauseWords, signedWords}
 use Rattle.unfolding.specs.Faithful.{clausesOf, variablesOf}
 use Rattle.rule_clauses.proofs.Rule.{signed-append}
-use Rattle.clause_output.proofs.Sizes.{copies-words}
+use Rattle.clause_sizes.proofs.Sizes.{copies-words}
 
 twice : (U : Unfolded) → 2 * variables U ≤ length (signedWords (clauses U))
 unfolding clauses variables

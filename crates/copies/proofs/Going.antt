@@ -20,13 +20,14 @@ use Rattle.sheet.specs.Sequence.{entries}
 use Rattle.program.specs.inner.Held.{ProgramTable, programIn}
 use Rattle.copies.specs.inner.Tables.{Values, Overlaid}
 use Rattle.copies.specs.inner.Bodies.{bodiesBy}
-use Rattle.copies.specs.inner.Made.{EntryAt, again, componentSet, Made}
-use Rattle.copies.specs.inner.Kept.{Marked, Kept}
+use Rattle.copies.specs.inner.Made.{EntryAt, again, Made}
+use Rattle.copies.specs.inner.Kept.{Marked, Kept, Selected}
 use Rattle.copies.specs.inner.Ready.{Ready, unfoldedIn}
 use Rattle.copies.specs.declared.EntryCopy.{EntryCopy}
+use Rattle.copies.specs.declared.CopyStep.{CopyStep}
 use Rattle.copies.proofs.Tables.{stored}
 use Rattle.copies.proofs.Placing.{entry-below}
-use Rattle.copies.proofs.Selecting.{name-low, component-has, kept-bodies}
+use Rattle.copies.proofs.Selecting.{kept-bodies}
 
 -- The copy of entry i behind those made so far, e of which are not their atom's last.
 abbrev pub copyOf : ProgramTable → List ℕ → ℕ → ℕ → List Copy → Copy
@@ -94,40 +95,40 @@ module _ (t : ProgramTable) (q : List ℕ) (i keeping : ℕ) (Rest : ℕ → Lis
         flip : (x y : ℕ) → eqb x y ≡ eqb y x
         flip x y = bool-ext (λ t. eq-eqb y x (sym (eqb-true x y t))) (λ t. eq-eqb x y (sym (eqb-true y x t)))
 
-pub ready-below : (t : ProgramTable) (names sets q : List ℕ) → Ready t names sets q → below 64 (entries q) ≡ true
-ready-below t names sets q R = below-more (t .atoms) 64 (entries q) (R .readable .atoms) (R .low)
+pub ready-below : (t : ProgramTable) (components q : List ℕ) → Ready t components q → below 64 (entries q) ≡ true
+ready-below t components q R = below-more (t .atoms) 64 (entries q) (R .readable .atoms) (R .low)
 
 -- The atom of an entry.
-module _ (t : ProgramTable) (names sets q : List ℕ) (R : Ready t names sets q) (i : ℕ) (from : 3 ≤ i) (within : i < length q) where
+module _ (t : ProgramTable) (components q : List ℕ) (R : Ready t components q) (i : ℕ) (from : 3 ≤ i) (within : i < length q) where
   pub entry-atom : getD q i 0 < t .atoms
   entry-atom = entry-below q i (t .atoms) from within (R .low)
 
-  pub entry-at : EntryAt names q i
-  entry-at = let l = entry-atom in let n = R .readable .atoms in record { from = from; within = within; atom = omega arith; name = name-low t names sets q R (getD q i 0) entry-atom }
+  pub entry-at : EntryAt q i
+  entry-at = let l = entry-atom in let n = R .readable .atoms in record { from = from; within = within; atom = omega arith }
 
 -- The table of latest copies and the highest variable follow the copies made so far, e of which are not their atom's last.
 pub record Tracks (n e : ℕ) (past : List Copy) (table : List ℕ) (highest : ℕ) : Type 0 where
   pub long : length table ≡ 64
   pub is : (b : ℕ) → b < 64 → getD table b 0 ≡ latest past b
   pub low : (b : ℕ) → latest past b ≤ n + e
-  pub next : highest ≡ n + e
+  pub reached : highest ≡ n + e
 
 pub tracks-start : (n : ℕ) → Tracks n 0 [] (replicate 64 0) n
 unfolding latest
-tracks-start n = record { long = length-replicate {A = ℕ} 64 0; is = λ b l. getD-replicate 64 b 0 0 l; low = λ b. omega arith; next = omega arith }
+tracks-start n = record { long = length-replicate {A = ℕ} 64 0; is = λ b l. getD-replicate 64 b 0 0 l; low = λ b. omega arith; reached = omega arith }
 
 -- The copy of entry i: its variable, its rules, and the tables behind it.
-module _ (t : ProgramTable) (names sets q : List ℕ) (R : Ready t names sets q) (i e : ℕ) (past : List Copy) (few : e + 3 ≤ i) (within : i < length q)
-    (table : List ℕ) (highest : ℕ) (T : Tracks (t .atoms) e past table highest) (c : EntryCopy) (M : Made q i names sets highest c) where
+module _ (t : ProgramTable) (components q : List ℕ) (R : Ready t components q) (i e : ℕ) (past : List Copy) (few : e + 3 ≤ i) (within : i < length q)
+    (table : List ℕ) (highest : ℕ) (T : Tracks (t .atoms) e past table highest) (c : EntryCopy) (M : Made q i highest c) where
   abbrev n : ℕ
   n = t .atoms
 
   a-low : getD q i 0 < t .atoms
-  a-low = entry-atom t names sets q R i (omega arith) within
+  a-low = entry-atom t components q R i (omega arith) within
 
   var-is : c .var ≡ variable (programIn t) e (getD q i 0) (again q i)
   unfolding variable last programIn
-  var-is = M .var ∙ ap (λ k. cond (again q i) k (suc (getD q i 0))) (let f = T .next in let g : suc highest ≡ t .atoms + suc e = omega arith in g)
+  var-is = M .var ∙ ap (λ k. cond (again q i) k (suc (getD q i 0))) (let f = T .reached in let g : suc highest ≡ t .atoms + suc e = omega arith in g)
 
   var-low : variable (programIn t) e (getD q i 0) (again q i) ≤ n + extraOf q i e
   unfolding variable last programIn
@@ -149,7 +150,7 @@ module _ (t : ProgramTable) (names sets q : List ℕ) (R : Ready t names sets q)
             (λ y. rw (y, eq-eqb (getD q i 0) b (sym (eqb-true b (getD q i 0) y))) var-is)
             (λ z. rw (z, ne-eqb (getD q i 0) b (λ g. eqb-false b (getD q i 0) z (sym g))) (T .is b l)));
         low = λ b. by-bool (eqb (getD q i 0) b) (λ y. rw y var-low) (λ z. rw z (let l = T .low b in let g = grows (again q i) in omega arith));
-        next = M .highest ∙ counted (again q i);
+        reached = M .highest ∙ counted (again q i);
       }
     where
       grows : (more : Bool) → e ≤ cond more (suc e) e
@@ -157,8 +158,8 @@ module _ (t : ProgramTable) (names sets q : List ℕ) (R : Ready t names sets q)
       grows false = omega arith
 
       counted : (more : Bool) → cond more (suc highest) highest ≡ t .atoms + cond more (suc e) e
-      counted true = let f = T .next in omega arith
-      counted false = T .next
+      counted true = let f = T .reached in omega arith
+      counted false = T .reached
 
   pub var-small : c .var < 1024
   var-small = let v = var-is in let w = var-low in let g = most (again q i) in let f = R .readable .atoms in let k = R .short in omega arith
@@ -168,28 +169,31 @@ module _ (t : ProgramTable) (names sets q : List ℕ) (R : Ready t names sets q)
       most false = omega arith
 
   -- The rules of the copy, over the variables that stand in them.
-  module _ (keeping : ℕ) (marks : (b : ℕ) → has keeping b ≡ latestKeeps past b) (list : List ℕ) (k : ℕ)
-      (K : Kept (t .heads) (t .pos) (t .rules) (c .atom) (c .component) keeping list k)
-      (lasts vars : List ℕ) (F : Values last lasts) (O : Overlaid (c .component) table lasts vars) where
+  module _ (keeping : ℕ) (marks : (b : ℕ) → has keeping b ≡ latestKeeps past b) (list : List ℕ) (s : CopyStep)
+      (S : Selected (t .records) (t .entries) components (record { rules = t .rules; atom = c .atom; keeping = keeping }) list s)
+      (lasts vars : List ℕ) (F : Values last lasts) (O : Overlaid (s .component) table lasts vars) where
+    set-is : s .component ≡ getD components (getD q i 0) 0
+    set-is = S .component ∙ ap (λ a. getD components a 0) (M .atom)
+
     stands : (b : ℕ) → b < t .atoms → getD vars b 0 ≡ replaced (programIn t) past (getD q i 0) b
     unfolding replaced
     stands b l =
         let f = R .readable .atoms in
         O .is b (omega arith)
-        ∙ (ap (λ (x : Bool). cond x (getD table b 0) (getD lasts b 0)) (ap (λ x. has x b) (M .component ∙ ap (componentSet names sets) (M .atom)) ∙ component-has t names sets q R (getD q i 0) b a-low l)
+        ∙ (ap (λ (x : Bool). cond x (getD table b 0) (getD lasts b 0)) (ap (λ x. has x b) set-is ∙ R .grouped .members (getD q i 0) b a-low l)
         ∙ ap₂ (λ x y. cond (sameComponent (programIn t) (getD q i 0) b) x y) (T .is b (omega arith)) (F .is b (omega arith)))
 
-    pub copy-is : copyOf t q i e past ≡ record { atom = c .atom; var = c .var; kept = bodiesBy (t .pos) (t .neg) (t .added) vars list k }
+    pub copy-is : copyOf t q i e past ≡ record { atom = c .atom; var = c .var; kept = bodiesBy (t .records) (t .entries) vars list (s .kept) }
     copy-is =
-        let at-atom = subst (λ x. Kept (t .heads) (t .pos) (t .rules) x (componentSet names sets x) keeping list k) (M .atom)
-        (subst (λ x. Kept (t .heads) (t .pos) (t .rules) (c .atom) x keeping list k) (M .component) K) in
-        let bodies = kept-bodies t names sets q R past keeping marks (getD q i 0) a-low list k at-atom vars stands in
+        let at-atom = subst (λ x. Kept (t .records) (t .entries) (t .rules) x (getD components (getD q i 0) 0) keeping list (s .kept)) (M .atom)
+        (subst (λ x. Kept (t .records) (t .entries) (t .rules) (c .atom) x keeping list (s .kept)) set-is (S .kept)) in
+        let bodies = kept-bodies t components q R past keeping marks (getD q i 0) a-low list (s .kept) at-atom vars stands in
         rw (M .atom, var-is, bodies) refl
 
     pub vars-small : (b : ℕ) → b < 64 → getD vars b 0 < 1024
     unfolding last
     vars-small b l =
         subst (λ x. x < 1024) (sym (O .is b l))
-        (by-bool (has (c .component) b)
-        (λ y. rw y (let g = T .is b l in let h = T .low b in let f = R .readable .atoms in let s = R .short in omega arith))
+        (by-bool (has (s .component) b)
+        (λ y. rw y (let g = T .is b l in let h = T .low b in let f = R .readable .atoms in let k = R .short in omega arith))
         (λ z. rw z (let g = F .is b l in omega arith)))

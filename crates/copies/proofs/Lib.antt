@@ -4,5 +4,4 @@ pub mod Keeping
 pub mod Selecting
 pub mod Going
 pub mod Sizes
-pub mod Totalling
 pub mod Emitting

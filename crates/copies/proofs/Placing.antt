@@ -5,23 +5,17 @@ use mathlib.Core.Path.{_≡_, refl, sym, _∙_, ap, subst}
 use Prim.Native.Nat.{ℕ, zero, suc, _+_, _-_, _≤_, _<_}
 use native.Mathlib.Numerals.{add-one}
 use native.Mathlib.Omega.{arith}
-use borrow.Author.Tests.{eqb-true, eqb-false, eq-eqb, ne-eqb, ltb-true}
-use lib.Dec.{eqb, ltb}
+use borrow.Author.Tests.{eqb-true, eqb-false, eq-eqb, ne-eqb}
+use lib.Dec.{eqb}
 use lib.ListN.{length, getD, drop, length-drop, set, length-set, replicate, length-replicate}
 use lib.Seq.{getD-drop}
-use Rattle.lists.specs.Lists.{all, any, below, member}
-use Rattle.lists.proofs.Bools.{by-bool, bool-ext, and-left, and-right, true-false, not-intro}
+use Rattle.lists.specs.Lists.{any, below, member}
+use Rattle.lists.proofs.Bools.{by-bool, bool-ext, true-false, not-intro}
+use Rattle.lists.proofs.Members.{member-out, below-at}
 use Rattle.bits.specs.inner.Sets.{ByteAt}
 use Rattle.sheet.specs.Sequence.{entries}
-use Rattle.copies.specs.inner.Made.{EntryAt, again, LastPlaces, componentSet, Made}
+use Rattle.copies.specs.inner.Made.{EntryAt, again, LastPlaces, Made}
 use Rattle.copies.proofs.Tables.{stored}
-
--- An element of a list of numbers below n.
-below-get : (n : ℕ) (l : List ℕ) (i : ℕ) → below n l ≡ true → i < length l → getD l i 0 < n
-unfolding below all
-below-get n [] i e h = absurd (omega arith)
-below-get n (x ∷ l) zero e h = ltb-true x n (and-left (ltb x n) (all (λ a. ltb a n) l) e)
-below-get n (x ∷ l) (suc i) e h = below-get n l i (and-right (ltb x n) (all (λ a. ltb a n) l) e) (omega arith)
 
 -- A member stands at an index, and what stands at an index is a member.
 get-member : (l : List ℕ) (i : ℕ) → i < length l → member (getD l i 0) l ≡ true
@@ -29,6 +23,9 @@ unfolding member any
 get-member [] i h = absurd (omega arith)
 get-member (x ∷ l) zero h = rw (eq-eqb x x refl) refl
 get-member (x ∷ l) (suc i) h = by-bool (eqb (getD l i 0) x) (λ t. rw t refl) (λ f. rw f (get-member l i (omega arith)))
+
+below-get : (n : ℕ) (l : List ℕ) (i : ℕ) → below n l ≡ true → i < length l → getD l i 0 < n
+below-get n l i e h = below-at n l e (getD l i 0) (member-out (getD l i 0) l (get-member l i h))
 
 member-get : (a : ℕ) (l : List ℕ) → member a l ≡ true → (i : ℕ) × (i < length l) × (getD l i 0 ≡ a)
 unfolding member any
@@ -110,28 +107,21 @@ module _ (q : List ℕ) where
             let there = ap (λ x. getD places x 0) e in
             not-intro (ne-eqb (getD places (getD q i 0) 0) i (λ z. omega arith))
 
-pub component-is : (names sets : List ℕ) (a c : ℕ) → c ≡ getD names a 0 → getD sets c 0 ≡ componentSet names sets a
-unfolding componentSet
-component-is names sets a c e = ap (λ x. getD sets x 0) e
-
 -- The copy of an entry.
-module _ (q : List ℕ) (i : ℕ) (names sets places : List ℕ) (so-far a component place : ℕ) (E : EntryAt names q i) (A : ByteAt q i a) where
+module _ (q : List ℕ) (i : ℕ) (places : List ℕ) (so-far a place : ℕ) (E : EntryAt q i) (A : ByteAt q i a) where
   pub copy-atom : a < 64
   copy-atom = subst (λ x. x < 64) (sym (A .is)) (E .atom)
 
-  pub copy-name : getD names a 0 < 64
-  copy-name = subst (λ x. getD names x 0 < 64) (sym (A .is)) (E .name)
-
-  module _ (K : LastPlaces q places) (C : component ≡ componentSet names sets a) (p : place ≡ getD places a 0) where
+  module _ (K : LastPlaces q places) (p : place ≡ getD places a 0) where
     test : not (eqb place i) ≡ again q i
     test = ap (λ x. not (eqb x i)) (p ∙ ap (λ x. getD places x 0) (A .is)) ∙ K .more i (E .from) (E .within)
 
-    pub made-last : place ≡ i → Made q i names sets so-far (record { atom = a; component = component; var = a + 1; highest = so-far })
+    pub made-last : place ≡ i → Made q i so-far (record { atom = a; var = a + 1; highest = so-far })
     made-last e =
         let none : again q i ≡ false = sym test ∙ ap not (eq-eqb place i e) in
-        record { atom = A .is; low = copy-atom; component = C; var = rw none (add-one a ∙ ap suc (A .is)); highest = rw none refl }
+        record { atom = A .is; low = copy-atom; var = rw none (add-one a ∙ ap suc (A .is)); highest = rw none refl }
 
-    pub made-earlier : (place ≡ i → ⊥) → Made q i names sets so-far (record { atom = a; component = component; var = so-far + 1; highest = so-far + 1 })
+    pub made-earlier : (place ≡ i → ⊥) → Made q i so-far (record { atom = a; var = so-far + 1; highest = so-far + 1 })
     made-earlier ne =
         let some : again q i ≡ true = sym test ∙ ap not (ne-eqb place i ne) in
-        record { atom = A .is; low = copy-atom; component = C; var = rw some (add-one so-far); highest = rw some (add-one so-far) }
+        record { atom = A .is; low = copy-atom; var = rw some (add-one so-far); highest = rw some (add-one so-far) }

@@ -6,7 +6,7 @@ use mathlib.Core.Path.{_≡_, refl, sym, _∙_, ap, subst}
 use Prim.Native.Nat.{ℕ, _+_, _-_, _*_, _≤_}
 use native.Mathlib.Nat.{suc-mul}
 use native.Mathlib.Omega.{arith}
-use lib.ListN.{length, length-append, length-map, length-drop, getD}
+use lib.ListN.{length, length-append, length-map, length-drop}
 use Rattle.lists.specs.Lists.{filter, member, range}
 use Rattle.lists.proofs.Bools.{by-bool}
 use Rattle.lists.proofs.Members.{map-cong, filter-out, flatMap-out}
@@ -17,11 +17,11 @@ use Rattle.unfolding.proofs.Numbering.{counted, copies-length}
 use Rattle.bits.specs.inner.Visited.{listed}
 use Rattle.bits.proofs.Visiting.{listed-few}
 use Rattle.sheet.specs.Sequence.{entries}
-use Rattle.program.specs.inner.Held.{ProgramTable, addedAtom, bodyOf, ruleOf, rulesAt, bodiesAt, programIn}
+use Rattle.program.specs.inner.Held.{tableRule, ProgramTable, addedAtom, bodyOf, ruleOf, rulesAt, bodiesAt, programIn}
+use Rattle.program.specs.declared.TableRule.{TableRule}
 use Rattle.copies.specs.inner.Tables.{Values}
-use Rattle.copies.specs.inner.Bodies.{bodyBy, entryBody, atomCount, atomsAt}
+use Rattle.copies.specs.inner.Bodies.{bodyBy, entryBody, atomCount, keptBodies}
 use Rattle.copies.specs.inner.Ready.{Ready, unfoldedIn}
-use Rattle.copies.specs.inner.Totals.{keptBodies}
 use Rattle.copies.proofs.Tables.{listed-last}
 use Rattle.copies.proofs.Keeping.{added-few}
 use Rattle.copies.proofs.Selecting.{atoms-renamed}
@@ -57,31 +57,31 @@ unfolding atomCount Short
 atoms-bound [] h = omega arith
 atoms-bound (b ∷ bs) h = let f = h b (List·Memᴰ·head refl) in let g = atoms-bound bs (λ x m. h x (List·Memᴰ·tail m)) in let k = suc-mul (length bs) 129 in omega arith
 
-renamed-short : (f : ℕ → ℕ) (pos neg added : ℕ) → Short (renamed f (bodyOf pos neg added))
+renamed-short : (f : ℕ → ℕ) (r : TableRule) → Short (renamed f (bodyOf r))
 unfolding renamed bodyOf Short
-renamed-short f pos neg added =
-    let p = length-map (bodyOf pos neg added .pos) f in
-    let n = length-map (bodyOf pos neg added .neg) last in
-    let u = listed-few pos in
-    let v = listed-few neg in
-    let w = length-append (listed neg) (addedAtom added) in
-    let x = added-few added in
+renamed-short f r =
+    let p = length-map (bodyOf r .pos) f in
+    let n = length-map (bodyOf r .neg) last in
+    let u = listed-few (r .pos) in
+    let v = listed-few (r .neg) in
+    let w = length-append (listed (r .neg)) (addedAtom (r .added)) in
+    let x = added-few (r .added) in
     omega arith
 
-module _ (t : ProgramTable) (names sets q : List ℕ) (R : Ready t names sets q) where
+module _ (t : ProgramTable) (components q : List ℕ) (R : Ready t components q) where
   abbrev P : Program
   P = programIn t
 
   kept-sized : (past : List Copy) (a : ℕ) → Sized (keptFor P past a)
   unfolding keptFor programIn rulesAt ruleOf
   kept-sized past a =
-      let rule : ℕ → Rule = λ i. ruleOf (getD (t .heads) i 0) (getD (t .pos) i 0) (getD (t .neg) i 0) (getD (t .added) i 0) in
+      let rule : ℕ → Rule = λ i. ruleOf (tableRule (t .records) (t .entries) i) in
       record {
         few = let x = length-map (filter (isKept P past a) (P .rules)) (λ (r : Rule). renamed (replaced P past a) (r .body)) in let y = filter-size (isKept P past a) (P .rules) in
             let z = length-map (range 0 (t .rules)) rule in let w = length-range 0 (t .rules) in let f = R .readable .few in omega arith;
         short = λ b k. let u = Memᴰ·of-map (λ (r : Rule). renamed (replaced P past a) (r .body)) (filter (isKept P past a) (P .rules)) k in
             let w = Memᴰ·of-map rule (range 0 (t .rules)) (filter-out (isKept P past a) (P .rules) (u .0) (u .1) .0) in
-            subst Short (u .2) (subst (λ (r : Rule). Short (renamed (replaced P past a) (r .body))) (w .2) (renamed-short (replaced P past a) (getD (t .pos) (w .0) 0) (getD (t .neg) (w .0) 0) (getD (t .added) (w .0) 0)));
+            subst Short (u .2) (subst (λ (r : Rule). Short (renamed (replaced P past a) (r .body))) (w .2) (renamed-short (replaced P past a) (tableRule (t .records) (t .entries) (w .0))));
       }
 
   copies-sized : (l : List ℕ) (e : ℕ) (past : List Copy) (c : Copy) → List·Memᴰ c (copiesFrom P e past l) → Sized (c .kept)
@@ -116,30 +116,28 @@ module _ (t : ProgramTable) (names sets q : List ℕ) (R : Ready t names sets q)
 
   -- The constraints.
   abbrev body : ℕ → Body
-  body i = bodyOf (getD (t .pos) i 0) (getD (t .neg) i 0) (getD (t .added) i 0)
+  body i = bodyOf (tableRule (t .records) (t .entries) i)
 
-  constraints-are : unfoldedIn t q .constraints ≡ map (λ i. renamed last (bodyOf (getD (t .pos) i 0) (getD (t .neg) i 0) (getD (t .added) i 0))) (range (t .rules) (t .constraints))
+  constraints-are : unfoldedIn t q .constraints ≡ map (λ i. renamed last (bodyOf (tableRule (t .records) (t .entries) i))) (range (t .rules) (t .constraints))
   unfolding unfoldedIn unfolded programIn bodiesAt
   constraints-are = map-map (renamed last) body (range (t .rules) (t .constraints))
 
   -- By a table of last copies.
-  pub constraints-by-last : (lasts : List ℕ) → Values last lasts → map (entryBody (t .pos) (t .neg) (t .added) lasts) (range (t .rules) (t .rules + t .constraints - t .rules)) ≡ unfoldedIn t q .constraints
+  pub constraints-by-last : (lasts : List ℕ) → Values last lasts → map (entryBody (t .records) (t .entries) lasts) (range (t .rules) (t .rules + t .constraints - t .rules)) ≡ unfoldedIn t q .constraints
   unfolding entryBody bodyBy renamed bodyOf
   constraints-by-last lasts F =
-      ap (λ k. map (entryBody (t .pos) (t .neg) (t .added) lasts) (range (t .rules) k)) (let e : t .rules + t .constraints - t .rules ≡ t .constraints = omega arith in e)
-      ∙ (map-cong (entryBody (t .pos) (t .neg) (t .added) lasts) (λ i. renamed last (body i)) (range (t .rules) (t .constraints))
-      (λ i m. ap (λ ps. record { pos = ps; neg = map last (listed (getD (t .neg) i 0) ++ addedAtom (getD (t .added) i 0)) }) (listed-last lasts (getD (t .pos) i 0) F))
+      ap (λ k. map (entryBody (t .records) (t .entries) lasts) (range (t .rules) k)) (let e : t .rules + t .constraints - t .rules ≡ t .constraints = omega arith in e)
+      ∙ (map-cong (entryBody (t .records) (t .entries) lasts) (λ i. renamed last (body i)) (range (t .rules) (t .constraints))
+      (λ i m. ap (λ ps. record { pos = ps; neg = map last (listed (tableRule (t .records) (t .entries) i .neg) ++ addedAtom (tableRule (t .records) (t .entries) i .added)) }) (listed-last lasts (tableRule (t .records) (t .entries) i .pos) F))
       ∙ sym constraints-are)
 
   pub constraints-number : t .constraints ≡ length (unfoldedIn t q .constraints)
   constraints-number =
       sym (ap length constraints-are ∙ (length-map (range (t .rules) (t .constraints)) (λ i. renamed last (body i)) ∙ length-range (t .rules) (t .constraints)))
 
-  pub constraints-atoms : atomsAt (t .pos) (t .neg) (t .added) (t .rules) (t .rules + t .constraints) ≡ atomCount (unfoldedIn t q .constraints)
-  unfolding atomsAt bodiesAt
-  constraints-atoms =
-      ap (λ k. atomCount (map body (range (t .rules) k))) (let e : t .rules + t .constraints - t .rules ≡ t .constraints = omega arith in e)
-      ∙ sym (ap atomCount constraints-are ∙ atoms-renamed last body (range (t .rules) (t .constraints)))
+  pub constraints-atoms : atomCount (bodiesAt (t .records) (t .entries) (t .rules) (t .constraints)) ≡ atomCount (unfoldedIn t q .constraints)
+  unfolding bodiesAt
+  constraints-atoms = sym (ap atomCount constraints-are ∙ atoms-renamed last body (range (t .rules) (t .constraints)))
 
   pub constraints-few : length (unfoldedIn t q .constraints) ≤ 192
   constraints-few = let e = constraints-number in let f = R .readable .few in omega arith
@@ -148,6 +146,6 @@ module _ (t : ProgramTable) (names sets q : List ℕ) (R : Ready t names sets q)
   constraints-short =
       let e = atoms-bound (unfoldedIn t q .constraints)
       (λ b k. let u = Memᴰ·of-map (λ i. renamed last (body i)) (range (t .rules) (t .constraints)) (subst (λ bs. List·Memᴰ b bs) constraints-are k) in
-      subst Short (u .2) (renamed-short last (getD (t .pos) (u .0) 0) (getD (t .neg) (u .0) 0) (getD (t .added) (u .0) 0))) in
+      subst Short (u .2) (renamed-short last (tableRule (t .records) (t .entries) (u .0)))) in
       let f = constraints-few in
       omega arith

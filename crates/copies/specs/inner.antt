@@ -4,4 +4,3 @@ pub mod Bodies
 pub mod Made
 pub mod Kept
 pub mod Ready
-pub mod Totals

@@ -8,22 +8,22 @@ use bits::subset;
 use bits::wide;
 use bits::with_if;
 use bits::without;
-use program::ProgramSize;
-use program::negative_at;
+use tables::Program;
+use tables::Table;
+use tables::entry_at;
+use tables::record_at;
 ghost use mathlib.Core.Bool.{true, cond};
 ghost use mathlib.Core.Path.{_≡_};
 ghost use Prim.Native.Nat.{_+_, _≤_, _<_};
-ghost use lib.ListN.{length, getD};
+ghost use lib.ListN.{length};
 ghost use Rattle.lists.specs.Lists.{below};
 ghost use Rattle.unfolding.specs.Unfolded.{last};
 ghost use Rattle.sheet.specs.Sequence.{entries};
-ghost use Rattle.program.specs.inner.Held.{Sources, gathered, tableOf};
+ghost use Rattle.program.specs.inner.Held.{tableRule};
 ghost use Rattle.copies.specs.inner.Tables.{Values, Overlaid};
-ghost use Rattle.copies.specs.inner.Bodies.{negativeAtoms, bodyAtoms, atomsAt};
-ghost use Rattle.copies.specs.inner.Made.{EntryAt, LastPlaces, componentSet, Made};
-ghost use Rattle.copies.specs.inner.Kept.{keeps, Marked, Inside, ListedAt, Kept, SmallSizes, SizesOf, KeptCounted};
-ghost use Rattle.copies.specs.inner.Ready.{Ready, unfoldedIn};
-ghost use Rattle.copies.specs.inner.Totals.{KeptTotals, TotalsOf};
+ghost use Rattle.copies.specs.inner.Bodies.{negativeAtoms};
+ghost use Rattle.copies.specs.inner.Made.{EntryAt, LastPlaces, Made};
+ghost use Rattle.copies.specs.inner.Kept.{keeps, Marked, Inside, ListedAt, Kept, Selected, CopyMade};
 
 // For each atom a variable.
 pub struct Variables {
@@ -43,9 +43,8 @@ pub fn last_copies() -> Variables
     Variables { vars }
 }
 
-// The variables of a set's atoms are put into a table. What stands in a rule for a are the last copies, and the latest copies of the
-// atoms of a's component.
-pub fn overlay(vars: &mut [u32; 64], source: &[u32; 64], set: u64)
+// The variables of a set's atoms are put into a table.
+fn overlay(vars: &mut [u32; 64], source: &[u32; 64], set: u64)
     requires { ⌜ length (now vars) ≡ 64 ⌝ }
     ensures { λ r. ⌜ Overlaid set (now (source .entry)) (now (vars .entry)) (now (vars .exit)) ⌝ }
 {
@@ -84,61 +83,52 @@ fn index(place: u16) -> usize
     place as usize
 }
 
-// The atoms of a's component.
-fn component_of(names: &[u8; 64], sets: &[u64; 64], a: usize) -> u64
-    requires { ⌜ (a < 64) × (getD (now names) a 0 < 64) ⌝ }
-    ensures { λ r. ⌜ r ≡ componentSet (now (names .entry)) (now (sets .entry)) a ⌝ }
-{
-    sets[wide(names[a])]
-}
-
-// The copy of an entry: its atom, the atoms of that atom's component, and its variable; and the highest variable, with it, of the copies
-// that are not their atom's last.
+// The copy of an entry: its atom and its variable; and the highest variable, with it, of the copies that are not their atom's last.
 pub struct EntryCopy {
     pub atom: usize,
-    pub component: u64,
     pub var: u32,
     pub highest: u32,
 }
 
 // The copy of the entry at an index.
-pub fn copy_at(
-    q: &[u8],
-    i: usize,
-    names: &[u8; 64],
-    sets: &[u64; 64],
-    places: &[u16; 64],
-    highest: u32,
-) -> EntryCopy
-    requires { ⌜ EntryAt (now names) (now q) i × LastPlaces (now q) (now places) × (highest < 4294967295) ⌝ }
-    ensures { λ r. ⌜ Made (now (q .entry)) i (now (names .entry)) (now (sets .entry)) highest r ⌝ }
+pub fn copy_at(q: &[u8], i: usize, places: &[u16; 64], highest: u32) -> EntryCopy
+    requires { ⌜ EntryAt (now q) i × LastPlaces (now q) (now places) × (highest < 4294967295) ⌝ }
+    ensures { λ r. ⌜ Made (now (q .entry)) i highest r ⌝ }
 {
     let atom = byte_at(q, i);
-    let component = component_of(names, sets, atom);
     if index(places[atom]) == i {
         return EntryCopy {
             atom,
-            component,
             var: (atom + 1) as u32,
             highest,
         };
     }
     EntryCopy {
         atom,
-        component,
         var: highest + 1,
         highest: highest + 1,
     }
 }
 
-// Is a rule kept for a copy of a: is a its head, and does the latest copy of every positive atom of a's component keep a rule?
-fn is_kept(head: u8, pos: u64, a: usize, component: u64, keeping: u64) -> bool
-    ensures { λ r. ⌜ r ≡ keeps a component keeping head pos ⌝ }
+// Is the rule at entry i kept for a copy of a: is a its head, and does the latest copy of every positive atom of a's component keep a
+// rule? The record at its source is read for few entries only.
+fn is_kept(
+    records: &Table,
+    program: &Program,
+    i: usize,
+    a: usize,
+    component: u64,
+    keeping: u64,
+) -> bool
+    requires { ⌜ i < 192 ⌝ }
+    ensures { λ r. ⌜ r ≡ keeps a component keeping (tableRule (now (records .entry)) (now (program .entry)) i) ⌝ }
 {
-    if wide(head) != a {
+    let entry = entry_at(program, i);
+    if wide(entry.head) != a {
         return false;
     }
-    subset(intersection(pos, component), keeping)
+    let source = record_at(records, wide(entry.source));
+    subset(intersection(source.pos, component), keeping)
 }
 
 // How many negative atoms a body has, with one that may be added.
@@ -150,13 +140,6 @@ pub fn negative_atoms(neg: u64, added: u8) -> u32
         return first;
     }
     first + 1
-}
-
-// How many atoms a body has.
-fn body_atoms(pos: u64, neg: u64, added: u8) -> usize
-    ensures { λ r. ⌜ r ≡ bodyAtoms pos neg added ⌝ }
-{
-    size(pos) as usize + negative_atoms(neg, added) as usize
 }
 
 // The number x, with k where b holds.
@@ -171,7 +154,7 @@ fn add_if(b: bool, x: usize, k: usize) -> usize
 }
 
 // The atoms whose latest copy keeps a rule, behind a copy of a that keeps so many.
-pub fn mark(keeping: u64, a: usize, rules: usize) -> u64
+fn mark(keeping: u64, a: usize, rules: usize) -> u64
     requires { ⌜ a < 64 ⌝ }
     ensures { λ r. ⌜ Marked keeping a rules r ⌝ }
 {
@@ -179,7 +162,7 @@ pub fn mark(keeping: u64, a: usize, rules: usize) -> u64
 }
 
 // The j-th of k entries that are listed.
-pub fn entry_at(entries: &[u8; 192], k: usize, j: usize) -> usize
+pub fn listed_at(entries: &[u8; 192], k: usize, j: usize) -> usize
     requires { ⌜ Inside (now entries) k × (j < k) ⌝ }
     ensures { λ r. ⌜ ListedAt (now (entries .entry)) j r ⌝ }
 {
@@ -187,9 +170,9 @@ pub fn entry_at(entries: &[u8; 192], k: usize, j: usize) -> usize
 }
 
 // The rules kept for a copy of a, of the first so many entries: their entries are listed, and how many there are is returned.
-pub fn kept_rules<'a>(
-    heads: &'a [u8; 192],
-    pos: &'a [u64; 192],
+fn kept_rules(
+    records: &Table,
+    program: &Program,
     rules: usize,
     a: usize,
     component: u64,
@@ -197,12 +180,12 @@ pub fn kept_rules<'a>(
     entries: &mut [u8; 192],
 ) -> usize
     requires { ⌜ (rules ≤ 192) × (length (now entries) ≡ 192) ⌝ }
-    ensures { λ r. ⌜ Kept (now (heads .entry)) (now (pos .entry)) rules a component keeping (now (entries .exit)) r ⌝ }
+    ensures { λ r. ⌜ Kept (now (records .entry)) (now (program .entry)) rules a component keeping (now (entries .exit)) r ⌝ }
 {
     let mut kept = 0;
     let mut j = 0;
     while j < rules {
-        let keep = is_kept(heads[j], pos[j], a, component, keeping);
+        let keep = is_kept(records, program, j, a, component, keeping);
         entries[kept] = j as u8;
         kept = add_if(keep, kept, 1);
         j += 1;
@@ -210,157 +193,79 @@ pub fn kept_rules<'a>(
     kept
 }
 
-// For each entry how many atoms its body has.
-pub struct BodySizes {
-    pub sizes: [u8; 192],
-}
-
-// The sizes of the first so many bodies.
-fn body_sizes<'a>(
-    pos: &'a [u64; 192],
-    sources: &'a [u8; 192],
-    neg: &'a [u64; 128],
-    added: &'a [u8; 192],
-    rules: usize,
-) -> BodySizes
-    requires { ⌜ Sources (now sources) × (rules ≤ 192) ⌝ }
-    ensures { λ r. ⌜ SizesOf (now (pos .entry)) (gathered (now (sources .entry)) (now (neg .entry))) (now (added .entry)) rules (r .sizes) ⌝ }
-{
-    let mut sizes = [0u8; 192];
-    let mut j = 0;
-    while j < rules {
-        let set = negative_at(sources, neg, j);
-        sizes[j] = body_atoms(pos[j], set, added[j]) as u8;
-        j += 1;
-    }
-    BodySizes { sizes }
-}
-
-// How many rules are kept for a copy, and how many atoms their bodies have.
-pub struct KeptNumbers {
+// A copy to select rules for: how many rules there are, its atom, and the atoms whose latest copy so far keeps a rule.
+pub struct Selection {
     pub rules: usize,
-    pub atoms: usize,
+    pub atom: usize,
+    pub keeping: u64,
 }
 
-// The numbers for a copy of a, of the first so many entries.
-fn kept_numbers<'a>(
-    heads: &'a [u8; 192],
-    pos: &'a [u64; 192],
-    sizes: &'a [u8; 192],
-    rules: usize,
-    a: usize,
-    component: u64,
-    keeping: u64,
-) -> KeptNumbers
-    requires { ⌜ (rules ≤ 192) × SmallSizes (now sizes) ⌝ }
-    ensures { λ r. ⌜ KeptCounted (now (heads .entry)) (now (pos .entry)) (now (sizes .entry)) rules a component keeping r ⌝ }
+// What is selected: the atoms of the copy's component, how many rules are kept, and the atoms whose latest copy keeps a rule, with the copy.
+pub struct CopyStep {
+    pub component: u64,
+    pub kept: usize,
+    pub keeping: u64,
+}
+
+// The step of one copy: the entries of the rules that it keeps are listed. For each atom there is the set of its component.
+pub fn copy_step(
+    records: &Table,
+    program: &Program,
+    components: &[u64; 64],
+    entries: &mut [u8; 192],
+    copy: Selection,
+) -> CopyStep
+    requires { ⌜ (copy .rules ≤ 192) × (copy .atom < 64) × (length (now entries) ≡ 192) ⌝ }
+    ensures { λ r. ⌜ Selected (now (records .entry)) (now (program .entry)) (now (components .entry)) copy (now (entries .exit)) r ⌝ }
 {
-    let mut kept = 0;
-    let mut atoms = 0;
-    let mut j = 0;
-    while j < rules {
-        let keep = is_kept(heads[j], pos[j], a, component, keeping);
-        kept = add_if(keep, kept, 1);
-        atoms = add_if(keep, atoms, wide(sizes[j]));
-        j += 1;
+    let a = copy.atom;
+    let component = components[a];
+    let kept = kept_rules(
+        records,
+        program,
+        copy.rules,
+        a,
+        component,
+        copy.keeping,
+        entries,
+    );
+    CopyStep {
+        component,
+        kept,
+        keeping: mark(copy.keeping, a, kept),
     }
-    KeptNumbers { rules: kept, atoms }
 }
 
-// How many rules the copies keep, and how many atoms their bodies have; the same of the constraints.
-pub struct Totals {
-    pub rules: usize,
-    pub atoms: usize,
-    pub constraints: usize,
-    pub literals: usize,
+// A copy to make: its entry's, of the rules at the first k entries of a program, behind copies of which these atoms' latest keep a rule.
+pub struct NewCopy {
+    pub entry: EntryCopy,
+    pub k: usize,
+    pub keeping: u64,
 }
 
-// The totals of the rules that the copies keep.
-fn kept_totals<'a>(
-    size: ProgramSize,
-    heads: &'a [u8; 192],
-    pos: &'a [u64; 192],
-    sources: &'a [u8; 192],
-    neg: &'a [u64; 128],
-    added: &'a [u8; 192],
-    q: &[u8],
-    names: &[u8; 64],
-    sets: &[u64; 64],
-) -> Totals
-    requires { ⌜ Sources (now sources)
-        × Ready (tableOf size (now heads) (now pos) (now sources) (now neg) (now added)) (now names) (now sets) (now q) ⌝ }
-    ensures { λ r. ⌜ KeptTotals
-        (unfoldedIn (tableOf size (now (heads .entry)) (now (pos .entry)) (now (sources .entry)) (now (neg .entry)) (now (added .entry))) (now (q .entry))) r ⌝ }
+// The rules of one copy, which becomes its atom's latest. In the table of variables, which has the last copies, the latest copies of the
+// atoms of its component are put in: these stand for positive atoms in its rules.
+pub fn next_copy(
+    records: &Table,
+    program: &Program,
+    components: &[u64; 64],
+    entries: &mut [u8; 192],
+    latest: &mut [u32; 64],
+    vars: &mut [u32; 64],
+    copy: NewCopy,
+) -> CopyStep
+    requires { ⌜ (copy .k ≤ 192) × (copy .entry .atom < 64) × (length (now entries) ≡ 192) × (length (now latest) ≡ 64) × (length (now vars) ≡ 64) ⌝ }
+    ensures { λ r. ⌜ CopyMade (now (records .entry)) (now (program .entry)) (now (components .entry)) (now (latest .entry)) (now (vars .entry))
+        copy (now (entries .exit)) (now (latest .exit)) (now (vars .exit)) r ⌝ }
 {
-    let table = body_sizes(pos, sources, neg, added, size.rules);
-    let mut keeping: u64 = 0;
-    let mut rules = 0;
-    let mut atoms = 0;
-    let mut i = 3;
-    while i < q.len() {
-        let a = byte_at(q, i);
-        let component = component_of(names, sets, a);
-        let kept = kept_numbers(heads, pos, &table.sizes, size.rules, a, component, keeping);
-        rules += kept.rules;
-        atoms += kept.atoms;
-        keeping = mark(keeping, a, kept.rules);
-        i += 1;
-    }
-    Totals {
-        rules,
-        atoms,
-        constraints: 0,
-        literals: 0,
-    }
-}
-
-// How many atoms the bodies of the entries from .. to - 1 have.
-fn atoms_at<'a>(
-    pos: &'a [u64; 192],
-    sources: &'a [u8; 192],
-    neg: &'a [u64; 128],
-    added: &'a [u8; 192],
-    from: usize,
-    to: usize,
-) -> usize
-    requires { ⌜ Sources (now sources) × (from ≤ to) × (to ≤ 192) ⌝ }
-    ensures { λ r. ⌜ r ≡ atomsAt (now (pos .entry)) (gathered (now (sources .entry)) (now (neg .entry))) (now (added .entry)) from to ⌝ }
-{
-    let mut atoms = 0;
-    let mut j = from;
-    while j < to {
-        let set = negative_at(sources, neg, j);
-        atoms += body_atoms(pos[j], set, added[j]);
-        j += 1;
-    }
-    atoms
-}
-
-// The totals of the unfolded program.
-pub fn totals_of<'a>(
-    size: ProgramSize,
-    heads: &'a [u8; 192],
-    pos: &'a [u64; 192],
-    sources: &'a [u8; 192],
-    neg: &'a [u64; 128],
-    added: &'a [u8; 192],
-    q: &[u8],
-    names: &[u8; 64],
-    sets: &[u64; 64],
-) -> Totals
-    requires { ⌜ Sources (now sources)
-        × Ready (tableOf size (now heads) (now pos) (now sources) (now neg) (now added)) (now names) (now sets) (now q) ⌝ }
-    ensures { λ r. ⌜ TotalsOf
-        (unfoldedIn (tableOf size (now (heads .entry)) (now (pos .entry)) (now (sources .entry)) (now (neg .entry)) (now (added .entry))) (now (q .entry))) r ⌝ }
-{
-    let from = size.rules;
-    let constraints = size.constraints;
-    let literals = atoms_at(pos, sources, neg, added, from, from + constraints);
-    let kept = kept_totals(size, heads, pos, sources, neg, added, q, names, sets);
-    Totals {
-        rules: kept.rules,
-        atoms: kept.atoms,
-        constraints,
-        literals,
-    }
+    let a = copy.entry.atom;
+    let selection = Selection {
+        rules: copy.k,
+        atom: a,
+        keeping: copy.keeping,
+    };
+    let step = copy_step(records, program, components, entries, selection);
+    overlay(vars, latest, step.component);
+    latest[a] = copy.entry.var;
+    step
 }

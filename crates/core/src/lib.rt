@@ -97,7 +97,7 @@ pub fn unfolded(
     requires { ⌜ Supported limits × TableFor limits (now table) ⌝ }
     ensures { λ r. ⌜ Promised limits (call.unfolded (now (s .entry)) (now (q .entry)) (now (out .entry))) (fromWrite r) (naturals (now (out .exit))) ⌝ }
 {
-    program_operations::unfolded(limits, s, q, out, table)
+    unfolded_operation::unfolded(limits, s, q, out, table)
 }
 
 // Writing clauses.
@@ -111,7 +111,7 @@ pub fn clauses(
     requires { ⌜ Supported limits × TableFor limits (now table) ⌝ }
     ensures { λ r. ⌜ Promised limits (call.clauses (now (s .entry)) (now (q .entry)) (now (out .entry))) (fromClauses r) (integers (now (out .exit))) ⌝ }
 {
-    program_operations::clauses(limits, s, q, out, table)
+    clauses_operation::clauses(limits, s, q, out, table)
 }
 
 // Counting the stable models.

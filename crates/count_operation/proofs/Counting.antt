@@ -7,7 +7,7 @@ use native.Mathlib.Omega.{arith}
 use borrow.Author.Tests.{le-leb, lt-leb, ltb-true, ltb-false}
 use lib.Dec.{ltb}
 use lib.ListN.{length}
-use Rattle.asp.specs.Count.{count, Verdict, none, clear, split, verdict}
+use Rattle.asp.specs.Count.{count, none, clear, split, verdict}
 use Rattle.sheet.specs.Questions.{ask, _then_, firstRefusal}
 use Rattle.sheet.specs.Format.{atomsByte}
 use Rattle.sheet.specs.inner.Walk.{AllSound}
@@ -15,9 +15,10 @@ use Rattle.sheet.specs.Sheet.{records, programOf, program}
 use Rattle.sheet.specs.declared.Limits.{Limits}
 use Rattle.sheet.proofs.Questions.{then-refused, then-zero, then-none}
 use Rattle.sheet.proofs.Walk.{formed, records-sound}
+use Rattle.reader.specs.inner.Tabled.{recordsAt, ExactSets}
+use Rattle.count_preparation.specs.inner.Asked.{Countable}
 use Rattle.counting.specs.DecisionAtoms.{decisionAtoms}
-use Rattle.counting.specs.inner.Prepared.{Entries, Full}
-use Rattle.counting.specs.inner.RecordsCounted.{Countable, recordsOf, RecordsCounted}
+use Rattle.counting.specs.inner.RecordsCounted.{RecordsCounted}
 use Rattle.counting.proofs.Deciding.{heads-written}
 use Rattle.counting.specs.declared.Found.{Found}
 use Rattle.operations.specs.Outcome.{refused, answered, code, fromVerdict}
@@ -48,7 +49,7 @@ verdict-split zero a b = absurd (a refl)
 verdict-split (suc zero) a b = absurd (b refl)
 verdict-split (suc (suc k)) a b = refl
 
-module _ (L : Limits) (s : List ℕ) (S : Supported L) (E : Entries) (es cs ss : List ℕ) (r : SheetNumbers) (A : RecordsChecked L s (E .kinds) (E .heads) (E .pos) (E .neg) es cs ss r) where
+module _ (L : Limits) (s : List ℕ) (S : Supported L) (t es cs ss : List ℕ) (r : SheetNumbers) (A : RecordsChecked L s t es cs ss r) where
   asked : callRefusal L (call.count s) ≡ sheetRefusal L s then question11 s
   unfolding describe inputQuestions firstRefusal
   asked = call-parted L (call.count s) ∙ ap (λ r. sheetRefusal L s then r) (then-none (question11 s))
@@ -63,50 +64,53 @@ module _ (L : Limits) (s : List ℕ) (S : Supported L) (E : Entries) (es cs ss :
     K : SheetAccepted L s cs ss r
     K = A .asked .accepted z
 
-    same : recordsOf (r .records) E ≡ records s
+    same : recordsAt t 0 (r .records) ≡ records s
     same = A .kept z .list
 
-    sound : AllSound (atomsByte s) (recordsOf (r .records) E)
+    sound : AllSound (atomsByte s) (recordsAt t 0 (r .records))
     sound = rw same (records-sound L s (K .bytes .form))
 
     low : atomsByte s ≤ 64
     low = let f = formed L s (K .bytes .form) .atoms in let l = S .atoms in omega arith
 
     -- What the count asks for: heads of records that are no constraints are atoms.
-    pub count-ready : Countable (r .records) (E .kinds) (E .heads)
+    pub count-ready : Countable (r .records) t
     count-ready =
         let f = formed L s (K .bytes .form) .count in
         let l = S .records in
         let n = K .bytes .number in
-        record { few = omega arith; low = λ j h ne. let a = low in let b = heads-written (r .records) E (atomsByte s) sound j h ne in omega arith }
+        record { few = omega arith; low = λ j h ne. let a = low in let b = heads-written (r .records) t (atomsByte s) sound j h ne in omega arith }
 
-    pub count-full : Full E
-    count-full = let l = A .kept z .long in record { kinds = l .kinds; heads = l .heads; pos = l .pos; neg = l .neg }
+    pub count-long : length t ≡ 384
+    count-long = A .kept z .long
 
-    module _ (t : Found) (T : RecordsCounted (r .records) E t) where
+    pub count-exact : ExactSets (r .records) t
+    count-exact = A .kept z .exact
+
+    module _ (f : Found) (T : RecordsCounted (r .records) t f) where
       eleventh : callRefusal L (call.count s) ≡ question11 s
       eleventh = asked ∙ then-zero (sheetRefusal L s) _ (sym (A .asked .says) ∙ z)
 
-      many : t .crowded ≡ ltb 16 (length (decisionAtoms (atomsByte s) (records s)))
+      many : f .crowded ≡ ltb 16 (length (decisionAtoms (atomsByte s) (records s)))
       many = T .many (atomsByte s) low sound ∙ ap (λ rs. ltb 16 (length (decisionAtoms (atomsByte s) rs))) same
 
-      pub count-crowded : t .crowded ≡ true → Promised L (call.count s) (refused 11) nothing
+      pub count-crowded : f .crowded ≡ true → Promised L (call.count s) (refused 11) nothing
       unfolding ask describe
       count-crowded e =
           let l = ltb-true 16 (length (decisionAtoms (atomsByte s) (records s))) (sym many ∙ e) in
           promised-refused L (call.count s) 11 (sym (eleventh ∙ rw (lt-leb (length (decisionAtoms (atomsByte s) (records s))) 16 l) refl)) (λ e. omega arith)
 
-      exact : t .crowded ≡ false → t .states ≡ count (program s)
+      exact : f .crowded ≡ false → f .states ≡ count (program s)
       unfolding program
       exact e = T .exact e .is (atomsByte s) low sound ∙ ap (λ rs. count (programOf (atomsByte s) rs)) same
 
-      pub count-answered : (v : declared.Verdict) → fromVerdict v ≡ verdict (t .states) → t .crowded ≡ false
-          → Promised L (call.count s) (answered (t .states ∷ code (fromVerdict v) ∷ [])) nothing
+      pub count-answered : (v : declared.Verdict) → fromVerdict v ≡ verdict (f .states) → f .crowded ≡ false
+          → Promised L (call.count s) (answered (f .states ∷ code (fromVerdict v) ∷ [])) nothing
       unfolding ask describe
       count-answered v w e =
           let l = ltb-false 16 (length (decisionAtoms (atomsByte s) (records s))) (sym many ∙ e) in
-          let values : countValues s ≡ t .states ∷ code (fromVerdict v) ∷ [] =
-          sym (ap (λ x. t .states ∷ code x ∷ []) w ∙ ap (λ k. k ∷ code (verdict k) ∷ []) (exact e))
+          let values : countValues s ≡ f .states ∷ code (fromVerdict v) ∷ [] =
+          sym (ap (λ x. f .states ∷ code x ∷ []) w ∙ ap (λ k. k ∷ code (verdict k) ∷ []) (exact e))
           in
           subst (λ vs. Promised L (call.count s) (answered vs) nothing) values
           (promised-answered L (call.count s) (eleventh ∙ rw (le-leb (length (decisionAtoms (atomsByte s) (records s))) 16 l) refl))

@@ -27,10 +27,7 @@ pub fn count(limits: Limits, s: &[u8]) -> CountAnswer
     requires { ⌜ Supported limits ⌝ }
     ensures { λ r. ⌜ Promised limits (call.count (now (s .entry))) (fromCount r) nothing ⌝ }
 {
-    let mut kinds = [0u8; 128];
-    let mut heads = [0u8; 128];
-    let mut pos = [0u64; 128];
-    let mut neg = [0u64; 128];
+    let mut records = [0u64; 384];
     let mut edges = [0u64; 64];
     let mut names = [0u8; 64];
     let mut sets = [0u64; 64];
@@ -38,10 +35,7 @@ pub fn count(limits: Limits, s: &[u8]) -> CountAnswer
     let a = check_records(
         limits,
         s,
-        &mut kinds,
-        &mut heads,
-        &mut pos,
-        &mut neg,
+        &mut records,
         &mut edges,
         &mut names,
         &mut sets,
@@ -52,7 +46,7 @@ pub fn count(limits: Limits, s: &[u8]) -> CountAnswer
         return CountAnswer::Refused(refusal);
     }
     let m = a.records;
-    let found = counting::count(m, &mut kinds, &mut heads, &mut pos, &mut neg, &ancestors);
+    let found = counting::count(m, &mut records, &ancestors);
     let states = found.states;
     if found.crowded {
         return CountAnswer::Refused(11);

@@ -1,4 +1,3 @@
-pub mod Ordering
 pub mod Returning
-pub mod Asking
+pub mod Gating
 pub mod Deciding

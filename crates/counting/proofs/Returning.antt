@@ -14,9 +14,10 @@ use Rattle.lists.proofs.Bools.{by-bool, true-false, is-false, is-true, and-intr
 use Rattle.asp.specs.LeastModel.{Inside}
 use Rattle.bits.specs.inner.Sets.{has, Either, Difference}
 use Rattle.bits.specs.inner.Visited.{Lowest, Rest}
-use Rattle.bits.specs.inner.Listed.{Low}
 use Rattle.bits.proofs.Digits.{zero-has}
-use Rattle.search.specs.inner.Rules.{Returning}
+use Rattle.tables.specs.inner.Rows.{rowAt}
+use Rattle.tables.specs.declared.SheetRecord.{SheetRecord}
+use Rattle.search.specs.inner.Rules.{LowHeads, Returning}
 use Rattle.counting.specs.inner.Returns.{Entered, Firsts, Sooner}
 
 -- Entering j for the atoms of a set, those left still to do.
@@ -49,70 +50,75 @@ module _ (at₀ : List ℕ) (x j : ℕ) where
       let z : left ≡ 0 = omega arith in
       record { long = E .long; new = λ a t. E .new a t (ap (λ y. has y a) z ∙ zero-has a); old = E .old }
 
--- The first j sets are seen.
-pub record Meeting (sets : List ℕ) (seen j : ℕ) (at : List ℕ) : Type 0 where
+-- The positive atoms of the first j rules are seen.
+pub record Meeting (t : List ℕ) (seen j : ℕ) (at : List ℕ) : Type 0 where
   pub long : length at ≡ 64
-  pub unseen : (a : ℕ) → has seen a ≡ false → (i : ℕ) → i < j → has (getD sets i 0) a ≡ false
+  pub unseen : (a : ℕ) → has seen a ≡ false → (i : ℕ) → i < j → has (rowAt t i .pos) a ≡ false
   pub near : (a : ℕ) → has seen a ≡ true → getD at a 0 < j
-  pub lacks : (a i : ℕ) → i < j → i < getD at a 0 → has (getD sets i 0) a ≡ false
+  pub lacks : (a i : ℕ) → i < j → i < getD at a 0 → has (rowAt t i .pos) a ≡ false
 
-module _ (sets : List ℕ) where
-  pub meeting-start : Meeting sets 0 0 (replicate 64 255)
+module _ (t : List ℕ) where
+  pub meeting-start : Meeting t 0 0 (replicate 64 255)
   meeting-start =
       record {
         long = length-replicate {A = ℕ} 64 255;
         unseen = λ a f i l. absurd (omega arith);
-        near = λ a t. absurd (true-false t (zero-has a));
+        near = λ a h. absurd (true-false h (zero-has a));
         lacks = λ a i l h. absurd (omega arith);
       }
 
-  module _ (seen j : ℕ) (at : List ℕ) (M : Meeting sets seen j at) (new : ℕ) (at′ : List ℕ) (seen′ : ℕ)
-      (D : Difference (getD sets j 0) seen new) (E : Entered at new j at′) (U : Either seen (getD sets j 0) seen′) where
-    -- An atom that is not new is seen, if the set at j has it.
-    met : (a : ℕ) → has new a ≡ false → has (getD sets j 0) a ≡ true → has seen a ≡ true
-    met a f t = is-true (λ g. true-false (D .members a ∙ and-intro t (not-intro g)) f)
+  module _ (seen j : ℕ) (at : List ℕ) (M : Meeting t seen j at) (r : SheetRecord) (same : r ≡ rowAt t j) (new : ℕ) (at′ : List ℕ) (seen′ : ℕ)
+      (D : Difference (r .pos) seen new) (E : Entered at new j at′) (U : Either seen (r .pos) seen′) where
+    -- An atom that is not new is seen, if the rule at j has it.
+    met : (a : ℕ) → has new a ≡ false → has (r .pos) a ≡ true → has seen a ≡ true
+    met a f h = is-true (λ g. true-false (D .members a ∙ and-intro h (not-intro g)) f)
 
-    unseen′ : (a : ℕ) → has seen′ a ≡ false → (i : ℕ) → i < j + 1 → has (getD sets i 0) a ≡ false
+    -- The rule at j, wherever it is named by its index.
+    at-j : (i a : ℕ) → i ≡ j → has (rowAt t i .pos) a ≡ has (r .pos) a
+    at-j i a e = rw (e, same) refl
+
+    unseen′ : (a : ℕ) → has seen′ a ≡ false → (i : ℕ) → i < j + 1 → has (rowAt t i .pos) a ≡ false
     unseen′ a f i l =
         by-bool (eqb i j)
-        (λ q. ap (λ i. has (getD sets i 0) a) (eqb-true i j q) ∙ is-false (λ t. true-false (U .members a ∙ or-right (has seen a) t) f))
-        (λ q. let ne = eqb-false i j q in M .unseen a (is-false (λ t. true-false (U .members a ∙ or-left (has (getD sets j 0) a) t) f)) i (omega arith))
+        (λ q. at-j i a (eqb-true i j q) ∙ is-false (λ h. true-false (U .members a ∙ or-right (has seen a) h) f))
+        (λ q. let ne = eqb-false i j q in M .unseen a (is-false (λ h. true-false (U .members a ∙ or-left (has (r .pos) a) h) f)) i (omega arith))
 
     near′ : (a : ℕ) → has seen′ a ≡ true → getD at′ a 0 < j + 1
-    near′ a t =
+    near′ a h =
         by-bool (has new a) (λ n. let e = E .new a n in omega arith)
         (λ n. let e = E .old a n in
-        let h = M .near a (⊎-elim (λ s. s) (met a n) (or-cases (has seen a) (has (getD sets j 0) a) (sym (U .members a) ∙ t))) in
+        let l = M .near a (⊎-elim (λ s. s) (met a n) (or-cases (has seen a) (has (r .pos) a) (sym (U .members a) ∙ h))) in
         omega arith)
 
-    lacks′ : (a i : ℕ) → i < j + 1 → i < getD at′ a 0 → has (getD sets i 0) a ≡ false
+    lacks′ : (a i : ℕ) → i < j + 1 → i < getD at′ a 0 → has (rowAt t i .pos) a ≡ false
     lacks′ a i l h =
         by-bool (has new a)
         (λ n. let e = E .new a n in
-        M .unseen a (not-elim (and-right (has (getD sets j 0) a) (not (has seen a)) (sym (D .members a) ∙ n))) i (omega arith))
+        M .unseen a (not-elim (and-right (has (r .pos) a) (not (has seen a)) (sym (D .members a) ∙ n))) i (omega arith))
         (λ n. let e = E .old a n in
         by-bool (eqb i j)
-        (λ q. let s = eqb-true i j q in is-false (λ t. let far = M .near a (met a n (subst (λ i. has (getD sets i 0) a ≡ true) s t)) in omega arith))
+        (λ q. let s = eqb-true i j q in is-false (λ o. let far = M .near a (met a n (sym (at-j i a s) ∙ o)) in omega arith))
         (λ q. let ne = eqb-false i j q in M .lacks a i (omega arith) (omega arith)))
 
-    pub meeting-turn : Meeting sets seen′ (j + 1) at′
+    pub meeting-turn : Meeting t seen′ (j + 1) at′
     meeting-turn = record { long = E .long; unseen = unseen′; near = near′; lacks = lacks′ }
 
-  pub meeting-end : (k seen j : ℕ) (at : List ℕ) → Meeting sets seen j at → k ≤ j → Firsts sets k at
+  pub meeting-end : (k seen j : ℕ) (at : List ℕ) → Meeting t seen j at → k ≤ j → Firsts t k at
   meeting-end k seen j at M l = record { lacks = λ a i h n. M .lacks a i (omega arith) n }
 
 -- The first j entries of the table of returns are right.
-pub record Filling (heads pos at : List ℕ) (k j : ℕ) : Type 0 where
+pub record Filling (t at : List ℕ) (k j : ℕ) : Type 0 where
   pub long : length at ≡ 128
   pub within : j ≤ k
-  pub done : Returning heads pos at j
+  pub done : Returning t at j
 
-pub filling-start : (heads pos : List ℕ) (k : ℕ) → Filling heads pos (replicate 128 0) k 0
-filling-start heads pos k = record { long = length-replicate {A = ℕ} 128 0; within = omega arith; done = record { near = λ i l. absurd (omega arith); lacks = λ i l. absurd (omega arith) } }
+pub filling-start : (t : List ℕ) (k : ℕ) → Filling t (replicate 128 0) k 0
+filling-start t k =
+    record { long = length-replicate {A = ℕ} 128 0; within = omega arith; done = record { near = λ i l. absurd (omega arith); lacks = λ i l. absurd (omega arith) } }
 
-pub filling-turn : (heads pos at first : List ℕ) (k j h next : ℕ) → Filling heads pos at k j → j < k → k ≤ 128 → Firsts pos k first → h ≡ getD heads j 0
-    → Sooner (getD first h 0) (j + 1) next → Filling heads pos (set at j (next % 256)) k (j + 1)
-filling-turn heads pos at first k j h next E l few F e S =
+pub filling-turn : (t at first : List ℕ) (r : SheetRecord) (k j h next : ℕ) → Filling t at k j → j < k → k ≤ 128 → Firsts t k first → r ≡ rowAt t j → h ≡ r .head
+    → Sooner (getD first h 0) (j + 1) next → Filling t (set at j (next % 256)) k (j + 1)
+filling-turn t at first r k j h next E l few F same e S =
     record {
       long = length-set at j (next % 256) ∙ E .long;
       within = omega arith;
@@ -125,11 +131,14 @@ filling-turn heads pos at first k j h next E l few F e S =
             let v = here i s in
             let n = S .first in
             let n′ = S .second in
-            ap (λ b. has (getD pos i′ 0) b) (ap (λ i. getD heads i 0) s ∙ sym e) ∙ F .lacks h i′ (omega arith) (omega arith))
+            ap (λ b. has (rowAt t i′ .pos) b) (ap (λ i. rowAt t i .head) s ∙ sym head) ∙ F .lacks h i′ (omega arith) (omega arith))
             (λ q. let ne = eqb-false i j q in let v = there i ne in E .done .lacks i (omega arith) i′ (omega arith));
       };
     }
   where
+    head : h ≡ rowAt t j .head
+    head = rw same at e
+
     here : (i : ℕ) → i ≡ j → getD (set at j (next % 256)) i 0 ≡ next
     here i s =
         ap (λ i. getD (set at j (next % 256)) i 0) s
@@ -138,8 +147,8 @@ filling-turn heads pos at first k j h next E l few F e S =
     there : (i : ℕ) → (i ≡ j → ⊥) → getD (set at j (next % 256)) i 0 ≡ getD at i 0
     there i ne = getD-set-other at j i (next % 256) 0 ne
 
-pub filling-end : (heads pos at : List ℕ) (k j : ℕ) → Filling heads pos at k j → k ≤ j → Returning heads pos at k
-filling-end heads pos at k j E l = let w = E .within in let e : j ≡ k = omega arith in subst (Returning heads pos at) e (E .done)
+pub filling-end : (t at : List ℕ) (k j : ℕ) → Filling t at k j → k ≤ j → Returning t at k
+filling-end t at k j E l = let w = E .within in let e : j ≡ k = omega arith in subst (Returning t at) e (E .done)
 
-pub head-low : (heads : List ℕ) (k j a : ℕ) → Low heads k → j < k → a ≡ getD heads j 0 → a < 64
-head-low heads k j a L l e = subst (λ x. x < 64) (sym e) (L .low j l)
+pub head-low : (t : List ℕ) (r : SheetRecord) (k j a : ℕ) → LowHeads t k → j < k → r ≡ rowAt t j → a ≡ r .head → a < 64
+head-low t r k j a L l same e = rw (e, same) (L .low j l)

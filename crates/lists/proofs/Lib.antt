@@ -3,5 +3,5 @@ pub mod Members
 pub mod Nodup
 pub mod Sublists
 pub mod Sorted
-pub mod Exchange
 pub mod Tables
+pub mod Rows

@@ -10,7 +10,7 @@ use Rattle.sheet.proofs.Walk.{formed}
 use Rattle.writer.specs.inner.Wrote.{Wrote}
 use Rattle.lparse_format.specs.Program.{lparseProgram}
 use Rattle.lparse_format.specs.Text.{lparseText}
-use Rattle.lparse_output.specs.inner.Lines.{wholeText}
+use Rattle.lparse_lines.specs.inner.Lines.{wholeText}
 use Rattle.lparse_output.proofs.Whole.{whole-is}
 use Rattle.operations.specs.Outcome.{refused, answered}
 use Rattle.operations.specs.Outputs.{lparseOutput}
@@ -23,7 +23,7 @@ use Rattle.operations.proofs.Writing.{room-refused, room-full, room-done}
 use Rattle.sheet_check.specs.inner.Checked.{SheetAccepted, RecordsChecked}
 use Rattle.sheet_check.specs.declared.SheetNumbers.{SheetNumbers}
 
-module _ (L : Limits) (s ks hs ps ns es cs ss : List ℕ) (r : SheetNumbers) (A : RecordsChecked L s ks hs ps ns es cs ss r) where
+module _ (L : Limits) (s t es cs ss : List ℕ) (r : SheetNumbers) (A : RecordsChecked L s t es cs ss r) where
   asked : r .refusal ≡ inputRefusal L (sheet s) then firstRefusal []
   asked = A .asked .says ∙ sym (nothing-behind L s)
 
@@ -38,29 +38,26 @@ module _ (L : Limits) (s ks hs ps ns es cs ss : List ℕ) (r : SheetNumbers) (A 
     passed : inputRefusal L (sheet s) then firstRefusal [] ≡ 0
     passed = sym asked ∙ z
 
-    pub lparse-sizes : Supported L → (r .written ≤ 64) × (r .records ≤ 128)
-    lparse-sizes S =
-        let F = formed L s (K .bytes .form) in
-        let a = F .atoms in
-        let b = F .count in
-        let n = K .bytes .written in
-        let m = K .bytes .number in
-        (let l = S .atoms in omega arith, let l = S .records in omega arith)
+    pub lparse-atoms : Supported L → r .written ≤ 64
+    lparse-atoms S = let l = S .atoms in let n = K .bytes .written in omega (arith, formed L s (K .bytes .form) .atoms)
+
+    pub lparse-count : Supported L → r .records ≤ 128
+    lparse-count S = let l = S .records in let m = K .bytes .number in omega (arith, formed L s (K .bytes .form) .count)
 
     abbrev whole : List ℕ
-    whole = wholeText (r .written) (r .records) ks hs ps ns
+    whole = wholeText (r .written) (r .records) t
 
-    -- The text from the arrays is that of the sheet.
+    -- The text from the table is that of the sheet.
     output : whole ≡ lparseOutput s
     unfolding lparseOutput
-    output = whole-is (r .written) (r .records) ks hs ps ns ∙ ap₂ (λ n rs. lparseText (lparseProgram n rs)) (K .bytes .written) (A .kept z .list)
+    output = whole-is (r .written) (r .records) t ∙ ap₂ (λ n rs. lparseText (lparseProgram n rs)) (K .bytes .written) (A .kept z .list)
 
-    module _ (old : List ℕ) (t : ℕ) (e : t ≡ length whole) where
-      pub lparse-full : length old < t → Promised L (call.lparse s old) (refused 10) (naturals old)
+    module _ (old : List ℕ) (size : ℕ) (e : size ≡ length whole) where
+      pub lparse-full : length old < size → Promised L (call.lparse s old) (refused 10) (naturals old)
       unfolding describe
       lparse-full l = room-full L (call.lparse s old) naturals (sheet s) [] (lparseOutput s) [] old refl passed (let f = ap length output in omega arith)
 
-      pub lparse-done : (new : List ℕ) (next : ℕ) → t ≤ length old → Wrote old 0 whole new next → Promised L (call.lparse s old) (answered (next ∷ [])) (naturals new)
+      pub lparse-done : (new : List ℕ) (next : ℕ) → size ≤ length old → Wrote old 0 whole new next → Promised L (call.lparse s old) (answered (next ∷ [])) (naturals new)
       unfolding describe
       lparse-done new next l W =
           room-done L (call.lparse s old) naturals (sheet s) [] (lparseOutput s) [] old refl passed new next (let f = ap length output in omega arith)

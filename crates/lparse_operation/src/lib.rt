@@ -1,6 +1,6 @@
 // Writing a sheet as lparse text.
-use lparse_output::lparse_length;
 use lparse_output::put_lparse;
+use lparse_sizes::lparse_length;
 use operations::WriteAnswer;
 use sheet::Limits;
 use sheet_check::check_records;
@@ -14,10 +14,7 @@ pub fn lparse(limits: Limits, s: &[u8], out: &mut [u8]) -> WriteAnswer
     requires { ⌜ Supported limits ⌝ }
     ensures { λ r. ⌜ Promised limits (call.lparse (now (s .entry)) (now (out .entry))) (fromWrite r) (naturals (now (out .exit))) ⌝ }
 {
-    let mut kinds = [0u8; 128];
-    let mut heads = [0u8; 128];
-    let mut pos = [0u64; 128];
-    let mut neg = [0u64; 128];
+    let mut records = [0u64; 384];
     let mut edges = [0u64; 64];
     let mut names = [0u8; 64];
     let mut sets = [0u64; 64];
@@ -25,10 +22,7 @@ pub fn lparse(limits: Limits, s: &[u8], out: &mut [u8]) -> WriteAnswer
     let a = check_records(
         limits,
         s,
-        &mut kinds,
-        &mut heads,
-        &mut pos,
-        &mut neg,
+        &mut records,
         &mut edges,
         &mut names,
         &mut sets,
@@ -40,9 +34,9 @@ pub fn lparse(limits: Limits, s: &[u8], out: &mut [u8]) -> WriteAnswer
     }
     let n = a.written;
     let m = a.records;
-    if out.len() < lparse_length(n, m, &kinds, &heads, &pos, &neg) {
+    if out.len() < lparse_length(n, m, &records) {
         return WriteAnswer::Refused(10);
     }
-    let length = put_lparse(out, n, m, &kinds, &heads, &pos, &neg);
+    let length = put_lparse(out, n, m, &records);
     WriteAnswer::Length(length)
 }

@@ -62,28 +62,35 @@ fn next_extension(
     }
 }
 
+// Where the next atom of a chain goes, and how the chain goes on from it.
+pub struct ChainPoint {
+    pub at: usize,
+    pub extension: Extension,
+}
+
 // Writes the first missing chain from the extension's place on, and answers the index behind it.
 fn put_chain(
     out: &mut [u8],
-    at: usize,
     table: &mut [u64],
     rows: &[u64; 64],
     atoms: &[u8; 16],
     k: usize,
     q: &[u8],
-    extension: Extension,
+    point: ChainPoint,
 ) -> usize
-    requires { ⌜ (at + extension .left ≤ length (now out)) × Roomy k (length (now table)) × Low (now atoms) k × RisesTo (now atoms) k × (below 64 (drop 3 (now q)) ≡ true)
-        × Fits k (now q) extension × SomeLacks (now rows) (now atoms) k (now q) extension ⌝ }
-    ensures { λ r. ⌜ ChainPut (now (rows .entry)) (now (atoms .entry)) k (now (q .entry)) extension (now (out .entry)) at (now (out .exit)) r ⌝ }
+    requires { ⌜ (point .at + point .extension .left ≤ length (now out)) × Roomy k (length (now table)) × Low (now atoms) k × RisesTo (now atoms) k × (below 64 (drop 3 (now q)) ≡ true)
+        × Fits k (now q) (point .extension) × SomeLacks (now rows) (now atoms) k (now q) (point .extension) ⌝ }
+    ensures { λ r. ⌜ ChainPut (now (rows .entry)) (now (atoms .entry)) k (now (q .entry)) (point .extension) (now (out .entry)) (point .at) (now (out .exit)) r ⌝ }
 {
+    let extension = point.extension;
     let place = extension.place;
-    let next = put(out, at, atoms[place]);
+    let at = put(out, point.at, atoms[place]);
     if extension.left <= 1 {
-        return next;
+        return at;
     }
-    let onward = next_extension(table, rows, atoms, k, q, extension);
-    put_chain(out, next, table, rows, atoms, k, q, onward)
+    let extension = next_extension(table, rows, atoms, k, q, extension);
+    let onward = ChainPoint { at, extension };
+    put_chain(out, table, rows, atoms, k, q, onward)
 }
 
 // Writes the shortest missing chain, which starts there, and answers its number of atoms.
@@ -106,5 +113,6 @@ pub fn put_missing(
         place: place_of(&atoms, k, start.atom),
         left: start.length,
     };
-    put_chain(out, 0, table, rows, &atoms, k, q, extension)
+    let first = ChainPoint { at: 0, extension };
+    put_chain(out, table, rows, &atoms, k, q, first)
 }

@@ -1,13 +1,12 @@
-// A program as a table of rules and constraints.
-//
-// The rules come first, in sheet order, and behind them the constraints. For each entry four arrays hold its head, its positive atoms, its
-// source and an added atom: its negative atoms are those that a table of sets has at the source, and one more may be added behind them,
-// where a + 1 stands for the atom a and 0 for none.
+// A program as a table: the rules of its entries come first, in sheet order, and behind them the constraints.
 use bits::wide;
+use tables::Program;
+use tables::Table;
+use tables::entry_at;
+use tables::record_at;
 ghost use mathlib.Core.Path.{_≡_};
 ghost use Prim.Native.Nat.{_<_};
-ghost use lib.ListN.{getD};
-ghost use Rattle.program.specs.inner.Held.{Sources, SourceAt, gathered};
+ghost use Rattle.program.specs.inner.Held.{tableRule};
 
 // The numbers of atoms, of rules and of constraints.
 pub struct ProgramSize {
@@ -16,19 +15,26 @@ pub struct ProgramSize {
     pub constraints: usize,
 }
 
-// The source of an entry.
-fn source_at(sources: &[u8; 192], i: usize) -> usize
-    requires { ⌜ Sources (now sources) × (i < 192) ⌝ }
-    ensures { λ r. ⌜ SourceAt (now (sources .entry)) i r ⌝ }
-{
-    wide(sources[i])
+// A rule as a table has it: its head, the sets of its positive and negative atoms, and an atom added to the negative ones, where a + 1
+// stands for the atom a and 0 for none. A constraint's head means nothing.
+pub struct TableRule {
+    pub head: u8,
+    pub pos: u64,
+    pub neg: u64,
+    pub added: u8,
 }
 
-// The negative atoms of an entry.
-pub fn negative_at<'a>(sources: &'a [u8; 192], neg: &'a [u64; 128], i: usize) -> u64
-    requires { ⌜ Sources (now sources) × (i < 192) ⌝ }
-    ensures { λ r. ⌜ r ≡ getD (gathered (now (sources .entry)) (now (neg .entry))) i 0 ⌝ }
+// The rule at entry i, with the sets of the record at its source.
+pub fn rule_at(records: &Table, program: &Program, i: usize) -> TableRule
+    requires { ⌜ i < 192 ⌝ }
+    ensures { λ r. ⌜ r ≡ tableRule (now (records .entry)) (now (program .entry)) i ⌝ }
 {
-    let j = source_at(sources, i);
-    neg[j]
+    let entry = entry_at(program, i);
+    let source = record_at(records, wide(entry.source));
+    TableRule {
+        head: entry.head,
+        pos: source.pos,
+        neg: source.neg,
+        added: entry.added,
+    }
 }

@@ -21,7 +21,7 @@ use Rattle.sheet.proofs.Records.{record-incomplete, record-kind, lists-pos, lis
 use Rattle.sheet.proofs.Lists.{climb-is, Climbing, climbing-start, climbing-below, climbing-above, climbing-turn, climbing-end}
 use Rattle.reader.specs.declared.Gather.{Gather}
 use Rattle.reader.specs.declared.Entry.{Entry}
-use Rattle.reader.specs.inner.Tabled.{Exact, ListRead, recordOf, ListsRead, EntryRead}
+use Rattle.reader.specs.inner.Tabled.{recordOf, Exact, ListRead, ListsRead, EntryRead}
 
 -- The loop over a list: the list rises so far, and what is left of it and what is in the set are its members.
 pub record Reading (n : ℕ) (l : List ℕ) (i low x : ℕ) : Type 0 where
@@ -84,7 +84,7 @@ module _ (n : ℕ) (s : List ℕ) (at k p : ℕ) (K : ByteAt s at k) (P : ByteAt
     read-neg r f e = no-lists r e (sym f ∙ both)
 
     pub read-both : (d h : ℕ) → n ≤ 64 → ByteAt s (at + 1) d → ByteAt s (at + 2) h → g₂ .ok ≡ true
-        → ListsRead n s at (record { refusal = 0; end = at + 1 + k; kind = d; head = h; pos = g .set; neg = g₂ .set })
+        → ListsRead n s at (record { refusal = 0; end = at + 1 + k; row = record { kind = d; head = h; pos = g .set; neg = g₂ .set } })
     unfolding ask recordOf recordAt
     read-both d h l D H u =
         record {
@@ -92,8 +92,7 @@ module _ (n : ℕ) (s : List ℕ) (at k p : ℕ) (K : ByteAt s at k) (P : ByteAt
           taken = λ _. record {
             end = rw (K .is) refl;
             is = rw (listed-read n _ g l G t, listed-read n _ g₂ l G₂ u, K .is, D .is, H .is, P .is) refl;
-            pos = exact-read n _ g l G t;
-            neg = exact-read n _ g₂ l G₂ u;
+            exact = record { pos = exact-read n _ g l G t; neg = exact-read n _ g₂ l G₂ u };
           };
         }
 

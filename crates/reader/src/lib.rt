@@ -1,13 +1,17 @@
-// Reading a sheet, in one pass that asks questions 1 to 6 and gathers its records into lent arrays.
+// Reading a sheet, in one pass that asks questions 1 to 6 and gathers its records into a table.
 use bits::byte_at;
 use bits::with;
 use sheet::Limits;
 use sheet::is_complete;
 use sheet::kind_passes;
+use tables::SheetRecord;
+use tables::Table;
+use tables::store_record;
 ghost use mathlib.Core.Path.{_≡_};
-ghost use Prim.Native.Nat.{_≤_, _<_};
+ghost use Prim.Native.Nat.{_≤_};
+ghost use lib.ListN.{length};
 ghost use Rattle.sheet.specs.inner.Walk.{Complete};
-ghost use Rattle.reader.specs.inner.Tabled.{ListRead, ListsRead, EntryRead, HeaderRead, RecordArrays, RecordsRead};
+ghost use Rattle.reader.specs.inner.Tabled.{ListRead, ListsRead, EntryRead, HeaderRead, RecordsRead};
 
 // The set of a list of atoms, where the list passes question 6.
 pub struct Gather {
@@ -41,22 +45,22 @@ fn gather_list(l: &[u8], n: usize) -> Gather
 pub struct Entry {
     pub refusal: u32,
     pub end: usize,
-    pub kind: u8,
-    pub head: u8,
-    pub pos: u64,
-    pub neg: u64,
+    pub row: SheetRecord,
 }
 
 fn no_entry(refusal: u32) -> Entry
     ensures { λ r. ⌜ r .refusal ≡ refusal ⌝ }
 {
-    Entry {
-        refusal,
-        end: 0,
+    let row = SheetRecord {
         kind: 0,
         head: 0,
         pos: 0,
         neg: 0,
+    };
+    Entry {
+        refusal,
+        end: 0,
+        row,
     }
 }
 
@@ -80,13 +84,16 @@ fn read_lists(s: &[u8], at: usize, n: usize) -> Entry
     if !neg.ok {
         return no_entry(6);
     }
-    Entry {
-        refusal: 0,
-        end,
+    let row = SheetRecord {
         kind: kind as u8,
         head: head as u8,
         pos: pos.set,
         neg: neg.set,
+    };
+    Entry {
+        refusal: 0,
+        end,
+        row,
     }
 }
 
@@ -150,17 +157,9 @@ pub fn read_header(limits: Limits, s: &[u8]) -> Header
 }
 
 // Questions 4, 5 and 6 of the m records from byte 5 on, which are stored; then, does nothing remain?
-pub fn read_records(
-    s: &[u8],
-    n: usize,
-    m: usize,
-    kinds: &mut [u8; 128],
-    heads: &mut [u8; 128],
-    pos: &mut [u64; 128],
-    neg: &mut [u64; 128],
-) -> u32
-    requires { do ⌜ (5 ≤ (← ⟦s.len()⟧)) × (n ≤ 64) × (m ≤ 128) × RecordArrays (now kinds) (now heads) (now pos) (now neg) ⌝ }
-    ensures { λ r. ⌜ RecordsRead n m (now (s .entry)) (now (kinds .exit)) (now (heads .exit)) (now (pos .exit)) (now (neg .exit)) r ⌝ }
+pub fn read_records(s: &[u8], n: usize, m: usize, records: &mut Table) -> u32
+    requires { do ⌜ (5 ≤ (← ⟦s.len()⟧)) × (n ≤ 64) × (m ≤ 128) × (length (now records) ≡ 384) ⌝ }
+    ensures { λ r. ⌜ RecordsRead n m (now (s .entry)) (now (records .exit)) r ⌝ }
 {
     let mut at = 5;
     let mut j = 0;
@@ -169,10 +168,7 @@ pub fn read_records(
         if r.refusal != 0 {
             return r.refusal;
         }
-        kinds[j] = r.kind;
-        heads[j] = r.head;
-        pos[j] = r.pos;
-        neg[j] = r.neg;
+        store_record(records, j, r.row);
         at = r.end;
         j += 1;
     }

@@ -11,6 +11,7 @@ use Rattle.unfolding.specs.Unfolded.{last, renamed}
 use Rattle.unfolding.specs.Clauses.{Literal, positive, negative, negated, Clause, literals, ruleClauses, constraintClause, signed, clauseWords, signedWords}
 use Rattle.bits.specs.inner.Visited.{listed}
 use Rattle.program.specs.inner.Held.{addedAtom, bodyOf}
+use Rattle.program.specs.declared.TableRule.{TableRule}
 use Rattle.writer.specs.inner.Wrote.{Wrote}
 use Rattle.writer.proofs.Writing.{wrote-append, wrote-length}
 use Rattle.copies.specs.inner.Tables.{Values}
@@ -26,120 +27,120 @@ signed-append [] ds = refl
 signed-append (c ∷ cs) ds = ap (λ ws. clauseWords c ++ ws) (signed-append cs ds) ∙ sym (append-assoc (clauseWords c) (signedWords cs) (signedWords ds))
 
 -- The body of two sets and an added atom.
-module _ (vars lasts : List ℕ) (pos-set neg-set added : ℕ) (F : Values last lasts) where
+module _ (vars lasts : List ℕ) (rule : TableRule) (F : Values last lasts) where
   abbrev body : Body
-  body = bodyBy vars pos-set neg-set added
+  body = bodyBy vars rule
 
   abbrev positives : List Literal
-  positives = map (literalBy vars true) (listed pos-set)
+  positives = map (literalBy vars true) (listed (rule .pos))
 
   abbrev negatives : List Literal
-  negatives = map (literalBy lasts false) (listed neg-set)
+  negatives = map (literalBy lasts false) (listed (rule .neg))
 
-  negatives-are : map negative (map last (listed neg-set ++ addedAtom added)) ≡ negatives ++ addedLiterals added
+  negatives-are : map negative (map last (listed (rule .neg) ++ addedAtom (rule .added))) ≡ negatives ++ addedLiterals (rule .added)
   unfolding literalBy literalOf addedLiterals
   negatives-are =
-      ap (map negative) (map-append last (listed neg-set) (addedAtom added))
-      ∙ (map-append negative (map last (listed neg-set)) (map last (addedAtom added))
+      ap (map negative) (map-append last (listed (rule .neg)) (addedAtom (rule .added)))
+      ∙ (map-append negative (map last (listed (rule .neg))) (map last (addedAtom (rule .added)))
       ∙ ap₂ (λ (x y : List Literal). x ++ y)
-      (ap (map negative) (sym (listed-last lasts neg-set F)) ∙ map-map negative (λ b. getD lasts b 0) (listed neg-set))
-      (map-map negative last (addedAtom added)))
+      (ap (map negative) (sym (listed-last lasts (rule .neg) F)) ∙ map-map negative (λ b. getD lasts b 0) (listed (rule .neg)))
+      (map-map negative last (addedAtom (rule .added))))
 
-  literals-are : literals body ≡ positives ++ (negatives ++ addedLiterals added)
+  literals-are : literals body ≡ positives ++ (negatives ++ addedLiterals (rule .added))
   unfolding literals bodyBy bodyOf renamed literalBy literalOf
-  literals-are = ap₂ (λ (x y : List Literal). x ++ y) (map-map positive (λ b. getD vars b 0) (listed pos-set)) negatives-are
+  literals-are = ap₂ (λ (x y : List Literal). x ++ y) (map-map positive (λ b. getD vars b 0) (listed (rule .pos))) negatives-are
 
   -- What is made of each literal of the body.
   each : {A : Type 0} (g : Literal → A)
-      → map g (literals body) ≡ map (λ b. g (literalBy vars true b)) (listed pos-set) ++ (map (λ b. g (literalBy lasts false b)) (listed neg-set) ++ map g (addedLiterals added))
+      → map g (literals body) ≡ map (λ b. g (literalBy vars true b)) (listed (rule .pos)) ++ (map (λ b. g (literalBy lasts false b)) (listed (rule .neg)) ++ map g (addedLiterals (rule .added)))
   each {A} g =
       ap (map g) literals-are
-      ∙ (map-append g positives (negatives ++ addedLiterals added)
-      ∙ ap₂ (λ (x y : List A). x ++ y) (map-map g (literalBy vars true) (listed pos-set))
-      (map-append g negatives (addedLiterals added) ∙ ap (λ (x : List A). x ++ map g (addedLiterals added)) (map-map g (literalBy lasts false) (listed neg-set))))
+      ∙ (map-append g positives (negatives ++ addedLiterals (rule .added))
+      ∙ ap₂ (λ (x y : List A). x ++ y) (map-map g (literalBy vars true) (listed (rule .pos)))
+      (map-append g negatives (addedLiterals (rule .added)) ∙ ap (λ (x : List A). x ++ map g (addedLiterals (rule .added))) (map-map g (literalBy lasts false) (listed (rule .neg)))))
 
   module _ (d : ℕ) where
     abbrev firsts : List ℤ
-    firsts = pairsWords vars true d pos-set
+    firsts = pairsWords vars true d (rule .pos)
 
     abbrev seconds : List ℤ
-    seconds = pairsWords lasts false d neg-set
+    seconds = pairsWords lasts false d (rule .neg)
 
     abbrev thirds : List ℤ
-    thirds = addedPairWords d added
+    thirds = addedPairWords d (rule .added)
 
-    pairs-words : bodyPairsWords vars d pos-set neg-set added ≡ firsts ++ (seconds ++ thirds)
+    pairs-words : bodyPairsWords vars d rule ≡ firsts ++ (seconds ++ thirds)
     unfolding bodyPairsWords bodyPairs pairsWords pairs addedPairWords
     pairs-words =
         let g : Literal → Clause = λ l. negative d ∷ l ∷ [] in
         ap signedWords (each g)
-        ∙ (signed-append (pairs vars true d pos-set) (pairs lasts false d neg-set ++ map g (addedLiterals added))
-        ∙ ap (λ ws. firsts ++ ws) (signed-append (pairs lasts false d neg-set) (map g (addedLiterals added))))
+        ∙ (signed-append (pairs vars true d (rule .pos)) (pairs lasts false d (rule .neg) ++ map g (addedLiterals (rule .added)))
+        ∙ ap (λ ws. firsts ++ ws) (signed-append (pairs lasts false d (rule .neg)) (map g (addedLiterals (rule .added)))))
 
-    pairs-size : length (bodyPairsWords vars d pos-set neg-set added) ≡ length firsts + (length seconds + length thirds)
+    pairs-size : length (bodyPairsWords vars d rule) ≡ length firsts + (length seconds + length thirds)
     pairs-size = ap length pairs-words ∙ (length-append firsts (seconds ++ thirds) ∙ ap (λ n. length firsts + n) (length-append seconds thirds))
 
-    module _ (old : List ℤ) (at : ℕ) (room : at + length (bodyPairsWords vars d pos-set neg-set added) ≤ length old) where
-      pub pairs-first : at + length (pairsWords vars true d pos-set) ≤ length old
+    module _ (old : List ℤ) (at : ℕ) (room : at + length (bodyPairsWords vars d rule) ≤ length old) where
+      pub pairs-first : at + length (pairsWords vars true d (rule .pos)) ≤ length old
       pairs-first = let e = pairs-size in omega arith
 
-      module _ (o₁ : List ℤ) (mid : ℕ) (W₁ : Wrote old at (pairsWords vars true d pos-set) o₁ mid) where
-        pub pairs-second : mid + length (pairsWords lasts false d neg-set) ≤ length o₁
+      module _ (o₁ : List ℤ) (mid : ℕ) (W₁ : Wrote old at (pairsWords vars true d (rule .pos)) o₁ mid) where
+        pub pairs-second : mid + length (pairsWords lasts false d (rule .neg)) ≤ length o₁
         pairs-second = let e = pairs-size in let m = W₁ .moved in let n = wrote-length _ _ _ _ _ W₁ in omega arith
 
-        pub pairs-third : (o₂ : List ℤ) (end : ℕ) → Wrote o₁ mid (pairsWords lasts false d neg-set) o₂ end → end + length (addedPairWords d added) ≤ length o₂
+        pub pairs-third : (o₂ : List ℤ) (end : ℕ) → Wrote o₁ mid (pairsWords lasts false d (rule .neg)) o₂ end → end + length (addedPairWords d (rule .added)) ≤ length o₂
         pairs-third o₂ end W₂ =
             let e = pairs-size in let m₁ = W₁ .moved in let m₂ = W₂ .moved in let n₁ = wrote-length _ _ _ _ _ W₁ in let n₂ = wrote-length _ _ _ _ _ W₂ in omega arith
 
-    pub pairs-wrote : (old o₁ o₂ new : List ℤ) (at mid end r : ℕ) → Wrote old at (pairsWords vars true d pos-set) o₁ mid → Wrote o₁ mid (pairsWords lasts false d neg-set) o₂ end
-        → Wrote o₂ end (addedPairWords d added) new r → Wrote old at (bodyPairsWords vars d pos-set neg-set added) new r
+    pub pairs-wrote : (old o₁ o₂ new : List ℤ) (at mid end r : ℕ) → Wrote old at (pairsWords vars true d (rule .pos)) o₁ mid → Wrote o₁ mid (pairsWords lasts false d (rule .neg)) o₂ end
+        → Wrote o₂ end (addedPairWords d (rule .added)) new r → Wrote old at (bodyPairsWords vars d rule) new r
     pairs-wrote old o₁ o₂ new at mid end r W₁ W₂ W₃ =
         subst (λ ws. Wrote old at ws new r) (sym pairs-words) (wrote-append _ _ _ _ _ _ _ _ W₁ (wrote-append _ _ _ _ _ _ _ _ W₂ W₃))
 
   abbrev fourths : List ℤ
-  fourths = flippedWords lasts false neg-set ++ (addedFlippedWords added ++ (pos 0 ∷ []))
+  fourths = flippedWords lasts false (rule .neg) ++ (addedFlippedWords (rule .added) ++ (pos 0 ∷ []))
 
-  back-words : backWords vars pos-set neg-set added ≡ flippedWords vars true pos-set ++ fourths
+  back-words : backWords vars rule ≡ flippedWords vars true (rule .pos) ++ fourths
   unfolding backWords clauseWords constraintClause flippedWords flipped addedFlippedWords
   back-words =
-      let g = flipped vars true pos-set in
-      let h = flipped lasts false neg-set in
-      let k = map negated (addedLiterals added) in
+      let g = flipped vars true (rule .pos) in
+      let h = flipped lasts false (rule .neg) in
+      let k = map negated (addedLiterals (rule .added)) in
       ap (λ (c : Clause). map signed c ++ (pos 0 ∷ [])) (each negated)
       ∙ (ap (λ (ws : List ℤ). ws ++ (pos 0 ∷ [])) (map-append signed g (h ++ k) ∙ ap (λ (ws : List ℤ). map signed g ++ ws) (map-append signed h k))
       ∙ (append-assoc (map signed g) (map signed h ++ map signed k) (pos 0 ∷ [])
       ∙ ap (λ (ws : List ℤ). map signed g ++ ws) (append-assoc (map signed h) (map signed k) (pos 0 ∷ []))))
 
-  back-size : length (backWords vars pos-set neg-set added) ≡ length (listed pos-set) + length (listed neg-set) + length (addedAtom added) + 1
+  back-size : length (backWords vars rule) ≡ length (listed (rule .pos)) + length (listed (rule .neg)) + length (addedAtom (rule .added)) + 1
   back-size =
-      let e = ap length back-words ∙ length-append (flippedWords vars true pos-set) fourths in
-      let f = length-append (flippedWords lasts false neg-set) (addedFlippedWords added ++ (pos 0 ∷ [])) in
-      let x = length-append (addedFlippedWords added) (pos 0 ∷ []) in
-      let g = flipped-size vars true pos-set in
-      let h = flipped-size lasts false neg-set in
-      let k = added-size added in
+      let e = ap length back-words ∙ length-append (flippedWords vars true (rule .pos)) fourths in
+      let f = length-append (flippedWords lasts false (rule .neg)) (addedFlippedWords (rule .added) ++ (pos 0 ∷ [])) in
+      let x = length-append (addedFlippedWords (rule .added)) (pos 0 ∷ []) in
+      let g = flipped-size vars true (rule .pos) in
+      let h = flipped-size lasts false (rule .neg) in
+      let k = added-size (rule .added) in
       omega arith
 
-  module _ (old : List ℤ) (at : ℕ) (room : at + length (backWords vars pos-set neg-set added) ≤ length old) where
-    pub back-first : at + length (listed pos-set) ≤ length old
+  module _ (old : List ℤ) (at : ℕ) (room : at + length (backWords vars rule) ≤ length old) where
+    pub back-first : at + length (listed (rule .pos)) ≤ length old
     back-first = let e = back-size in omega arith
 
-    module _ (o₁ : List ℤ) (mid : ℕ) (W₁ : Wrote old at (flippedWords vars true pos-set) o₁ mid) where
-      pub back-second : mid + length (listed neg-set) ≤ length o₁
-      back-second = let e = back-size in let m = W₁ .moved in let n = wrote-length _ _ _ _ _ W₁ in let g = flipped-size vars true pos-set in omega arith
+    module _ (o₁ : List ℤ) (mid : ℕ) (W₁ : Wrote old at (flippedWords vars true (rule .pos)) o₁ mid) where
+      pub back-second : mid + length (listed (rule .neg)) ≤ length o₁
+      back-second = let e = back-size in let m = W₁ .moved in let n = wrote-length _ _ _ _ _ W₁ in let g = flipped-size vars true (rule .pos) in omega arith
 
-      module _ (o₂ : List ℤ) (behind : ℕ) (W₂ : Wrote o₁ mid (flippedWords lasts false neg-set) o₂ behind) where
-        pub back-third : behind + length (addedAtom added) ≤ length o₂
+      module _ (o₂ : List ℤ) (behind : ℕ) (W₂ : Wrote o₁ mid (flippedWords lasts false (rule .neg)) o₂ behind) where
+        pub back-third : behind + length (addedAtom (rule .added)) ≤ length o₂
         back-third =
-            let e = back-size in let m = W₁ .moved in let m₂ = W₂ .moved in let n = wrote-length _ _ _ _ _ W₁ in let n₂ = wrote-length _ _ _ _ _ W₂ in let g = flipped-size vars true pos-set in let h = flipped-size lasts false neg-set in omega arith
+            let e = back-size in let m = W₁ .moved in let m₂ = W₂ .moved in let n = wrote-length _ _ _ _ _ W₁ in let n₂ = wrote-length _ _ _ _ _ W₂ in let g = flipped-size vars true (rule .pos) in let h = flipped-size lasts false (rule .neg) in omega arith
 
-        module _ (o₃ : List ℤ) (end : ℕ) (W₃ : Wrote o₂ behind (addedFlippedWords added) o₃ end) where
+        module _ (o₃ : List ℤ) (end : ℕ) (W₃ : Wrote o₂ behind (addedFlippedWords (rule .added)) o₃ end) where
           pub back-fourth : end < length o₃
           back-fourth =
               let m = W₁ .moved in let m₂ = W₂ .moved in let m₃ = W₃ .moved in let n = wrote-length _ _ _ _ _ W₁ in let n₂ = wrote-length _ _ _ _ _ W₂ in let n₃ = wrote-length _ _ _ _ _ W₃ in
-              let e = back-size in let g = flipped-size vars true pos-set in let h = flipped-size lasts false neg-set in let k = added-size added in omega arith
+              let e = back-size in let g = flipped-size vars true (rule .pos) in let h = flipped-size lasts false (rule .neg) in let k = added-size (rule .added) in omega arith
 
-          pub back-wrote : (new : List ℤ) (r : ℕ) → Wrote o₃ end (pos 0 ∷ []) new r → Wrote old at (backWords vars pos-set neg-set added) new r
+          pub back-wrote : (new : List ℤ) (r : ℕ) → Wrote o₃ end (pos 0 ∷ []) new r → Wrote old at (backWords vars rule) new r
           back-wrote new r W₄ =
               subst (λ ws. Wrote old at ws new r) (sym back-words) (wrote-append _ _ _ _ _ _ _ _ W₁ (wrote-append _ _ _ _ _ _ _ _ W₂ (wrote-append _ _ _ _ _ _ _ _ W₃ W₄)))
 
@@ -166,31 +167,31 @@ module _ (h d : ℕ) (b : Body) where
       omega arith
 
 -- A rule.
-module _ (vars : List ℕ) (h d pos-set neg-set added : ℕ) where
-  whole : length (ruleWords vars h d pos-set neg-set added) ≡ 3 + length (bodyPairsWords vars d pos-set neg-set added) + 1 + length (backWords vars pos-set neg-set added)
+module _ (vars : List ℕ) (h d : ℕ) (rule : TableRule) where
+  whole : length (ruleWords vars h d rule) ≡ 3 + length (bodyPairsWords vars d rule) + 1 + length (backWords vars rule)
   unfolding ruleWords bodyPairsWords backWords
-  whole = rule-size h d (bodyBy vars pos-set neg-set added)
+  whole = rule-size h d (bodyBy vars rule)
 
-  module _ (old : List ℤ) (at : ℕ) (room : at + length (ruleWords vars h d pos-set neg-set added) ≤ length old) where
+  module _ (old : List ℤ) (at : ℕ) (room : at + length (ruleWords vars h d rule) ≤ length old) where
     pub rule-first : at + 3 ≤ length old
     rule-first = let e = whole in omega arith
 
     module _ (o₁ : List ℤ) (p₁ : ℕ) (W₁ : Wrote old at (clauseWords (literalOf true h ∷ literalOf false d ∷ [])) o₁ p₁) where
-      pub rule-second : p₁ + length (bodyPairsWords vars d pos-set neg-set added) ≤ length o₁
+      pub rule-second : p₁ + length (bodyPairsWords vars d rule) ≤ length o₁
       rule-second = let e = whole in let n = wrote-length _ _ _ _ _ W₁ in let m = W₁ .moved in let g = two-size (literalOf true h) (literalOf false d) in omega arith
 
-      module _ (o₂ : List ℤ) (p₂ : ℕ) (W₂ : Wrote o₁ p₁ (bodyPairsWords vars d pos-set neg-set added) o₂ p₂) where
+      module _ (o₂ : List ℤ) (p₂ : ℕ) (W₂ : Wrote o₁ p₁ (bodyPairsWords vars d rule) o₂ p₂) where
         pub rule-third : p₂ < length o₂
         rule-third = let e = whole in let n = wrote-length _ _ _ _ _ W₁ in let n₂ = wrote-length _ _ _ _ _ W₂ in let m = W₁ .moved in let m₂ = W₂ .moved in let g = two-size (literalOf true h) (literalOf false d) in omega arith
 
         module _ (o₃ : List ℤ) (p₃ : ℕ) (W₃ : Wrote o₂ p₂ (pos d ∷ []) o₃ p₃) where
-          pub rule-fourth : p₃ + length (backWords vars pos-set neg-set added) ≤ length o₃
+          pub rule-fourth : p₃ + length (backWords vars rule) ≤ length o₃
           rule-fourth =
               let n = wrote-length _ _ _ _ _ W₁ in let n₂ = wrote-length _ _ _ _ _ W₂ in let n₃ = wrote-length _ _ _ _ _ W₃ in
               let e = whole in let m = W₁ .moved in let m₂ = W₂ .moved in let m₃ = W₃ .moved in let g = two-size (literalOf true h) (literalOf false d) in omega arith
 
-          pub rule-wrote : (new : List ℤ) (r : ℕ) → Wrote o₃ p₃ (backWords vars pos-set neg-set added) new r → Wrote old at (ruleWords vars h d pos-set neg-set added) new r
+          pub rule-wrote : (new : List ℤ) (r : ℕ) → Wrote o₃ p₃ (backWords vars rule) new r → Wrote old at (ruleWords vars h d rule) new r
           unfolding ruleWords bodyPairsWords backWords
           rule-wrote new r W₄ =
-              subst (λ ws. Wrote old at ws new r) (sym (parts h d (bodyBy vars pos-set neg-set added)))
+              subst (λ ws. Wrote old at ws new r) (sym (parts h d (bodyBy vars rule)))
               (wrote-append _ _ _ _ _ _ _ _ W₁ (wrote-append _ _ _ _ _ _ _ _ W₂ (wrote-append _ _ _ _ _ _ _ _ W₃ W₄)))

@@ -1,6 +1,7 @@
 // Writing the clauses of one rule.
 use bits::lowest;
 use bits::rest;
+use program::TableRule;
 use writer::put_negated;
 use writer::put_plain;
 ghost use mathlib.Core.List.{[], _∷_};
@@ -86,64 +87,57 @@ fn put_added_flipped(out: &mut [i32], at: usize, added: u8) -> usize
     put_plain(out, at, added as u32)
 }
 
-// For each literal of the body of two sets and an added atom the clause of -d and it.
+// For each literal of a rule's body the clause of -d and it.
 fn put_body_pairs(
     out: &mut [i32],
     at: usize,
     d: u32,
-    pos: u64,
-    neg: u64,
-    added: u8,
+    rule: TableRule,
     vars: &[u32; 64],
     lasts: &[u32; 64],
 ) -> usize
     requires { ⌜ SmallVariables (now vars) × Values last (now lasts) × (d < 2147483648)
-        × (at + length (bodyPairsWords (now vars) d pos neg added) ≤ length (now out)) ⌝ }
-    ensures { λ r. ⌜ Wrote (now (out .entry)) at (bodyPairsWords (now (vars .entry)) d pos neg added) (now (out .exit)) r ⌝ }
+        × (at + length (bodyPairsWords (now vars) d rule) ≤ length (now out)) ⌝ }
+    ensures { λ r. ⌜ Wrote (now (out .entry)) at (bodyPairsWords (now (vars .entry)) d rule) (now (out .exit)) r ⌝ }
 {
-    let middle = put_pairs(out, at, d, pos, vars, true);
-    let end = put_pairs(out, middle, d, neg, lasts, false);
-    put_added_pair(out, end, d, added)
+    let middle = put_pairs(out, at, d, rule.pos, vars, true);
+    let end = put_pairs(out, middle, d, rule.neg, lasts, false);
+    put_added_pair(out, end, d, rule.added)
 }
 
-// The clause of the negated literals of the body of two sets and an added atom.
+// The clause of the negated literals of a rule's body.
 pub fn put_back(
     out: &mut [i32],
     at: usize,
-    pos: u64,
-    neg: u64,
-    added: u8,
+    rule: TableRule,
     vars: &[u32; 64],
     lasts: &[u32; 64],
 ) -> usize
-    requires { ⌜ SmallVariables (now vars) × Values last (now lasts)
-        × (at + length (backWords (now vars) pos neg added) ≤ length (now out)) ⌝ }
-    ensures { λ r. ⌜ Wrote (now (out .entry)) at (backWords (now (vars .entry)) pos neg added) (now (out .exit)) r ⌝ }
+    requires { ⌜ SmallVariables (now vars) × Values last (now lasts) × (at + length (backWords (now vars) rule) ≤ length (now out)) ⌝ }
+    ensures { λ r. ⌜ Wrote (now (out .entry)) at (backWords (now (vars .entry)) rule) (now (out .exit)) r ⌝ }
 {
-    let middle = put_flipped(out, at, pos, vars, true);
-    let behind = put_flipped(out, middle, neg, lasts, false);
-    let last = put_added_flipped(out, behind, added);
+    let middle = put_flipped(out, at, rule.pos, vars, true);
+    let behind = put_flipped(out, middle, rule.neg, lasts, false);
+    let last = put_added_flipped(out, behind, rule.added);
     put_plain(out, last, 0)
 }
 
-// The clauses of the rule of two sets and an added atom, with the variable d, for h.
+// The clauses of a rule, with the variable d, for h.
 pub fn put_rule(
     out: &mut [i32],
     at: usize,
     h: u32,
     d: u32,
-    pos: u64,
-    neg: u64,
-    added: u8,
+    rule: TableRule,
     vars: &[u32; 64],
     lasts: &[u32; 64],
 ) -> usize
     requires { ⌜ SmallVariables (now vars) × Values last (now lasts) × (h < 2147483648) × (d < 2147483648)
-        × (at + length (ruleWords (now vars) h d pos neg added) ≤ length (now out)) ⌝ }
-    ensures { λ r. ⌜ Wrote (now (out .entry)) at (ruleWords (now (vars .entry)) h d pos neg added) (now (out .exit)) r ⌝ }
+        × (at + length (ruleWords (now vars) h d rule) ≤ length (now out)) ⌝ }
+    ensures { λ r. ⌜ Wrote (now (out .entry)) at (ruleWords (now (vars .entry)) h d rule) (now (out .exit)) r ⌝ }
 {
     let first = put_two(out, at, true, h, false, d);
-    let second = put_body_pairs(out, first, d, pos, neg, added, vars, lasts);
+    let second = put_body_pairs(out, first, d, rule, vars, lasts);
     let third = put_plain(out, second, d);
-    put_back(out, third, pos, neg, added, vars, lasts)
+    put_back(out, third, rule, vars, lasts)
 }

@@ -15,23 +15,28 @@ use Rattle.asp.specs.Least.{Closed}
 use Rattle.search.specs.inner.Decided.{CountRule}
 use Rattle.search.proofs.Branching.{fires-out, fires-in}
 use Rattle.bits.specs.inner.Sets.{has}
+use Rattle.tables.specs.inner.Rows.{rowAt}
+use Rattle.tables.specs.declared.SheetRecord.{SheetRecord}
 use Rattle.search.specs.inner.Rules.{Masks, RuleAt, HeldRules, passes, Applies, Fired, FiredAt, operator, Ready, Onward, LeastBy}
 use Rattle.search.specs.declared.Bound.{Bound}
 use Rattle.search.proofs.Rules.{masked-all, all-masked}
 
-pub fired-here : (heads pos neg gate : List ℕ) (j : ℕ) (B : Bound) (l r h : ℕ) (b : Bool) → h ≡ getD heads j 0 → Applies B (getD neg j 0) (getD gate j 0) b → Fired l h (getD pos j 0) b r
-    → FiredAt heads pos neg gate j B l r
-fired-here heads pos neg gate j B l r h b e A F = record { flag = b; asked = A; fired = subst (λ k. Fired l k (getD pos j 0) b r) e F }
+pub head-low : (t : List ℕ) (j h : ℕ) (R : SheetRecord) → R ≡ rowAt t j → h ≡ R .head → rowAt t j .head < 64 → h < 64
+head-low t j h R same e l = rw (e, same) l
+
+pub fired-here : (t gate : List ℕ) (j : ℕ) (B : Bound) (l r h : ℕ) (R : SheetRecord) (b : Bool) → R ≡ rowAt t j → h ≡ R .head
+    → Applies B (R .neg) (getD gate j 0) b → Fired l h (R .pos) b r → FiredAt t gate j B l r
+fired-here t gate j B l r h R b same e A F = record { flag = b; asked = rw same at A; fired = rw (e, same) at F }
 
 module _ (M : Masks) (B : Bound) where
   abbrev FiresAt : ℕ → ℕ → ℕ → Type 0
-  FiresAt j x y = FiredAt (M .heads) (M .pos) (M .neg) (M .gate) j B x y
+  FiresAt j x y = FiredAt (M .records) (M .gate) j B x y
 
   abbrev head-at : ℕ → ℕ
-  head-at j = getD (M .heads) j 0
+  head-at j = rowAt (M .records) j .head
 
   abbrev pos-at : ℕ → ℕ
-  pos-at j = getD (M .pos) j 0
+  pos-at j = rowAt (M .records) j .pos
 
   -- The rules before j add nothing.
   pub record Passing (l j x : ℕ) : Type 0 where
@@ -42,7 +47,7 @@ module _ (M : Masks) (B : Bound) where
   passing-start l = record { below = λ rs H Y c s. s; still = λ i h. absurd (omega arith) }
 
   -- Where rule j adds its head, the rules before back[j] ask for nothing new.
-  pub passing-turn : (back : List ℕ) (l j x y j₁ : ℕ) → Ready (M .heads) (M .pos) back (M .sizes) → Passing l j x → j < M .sizes .rules → FiresAt j x y → Onward x y (getD back j 0) j j₁
+  pub passing-turn : (back : List ℕ) (l j x y j₁ : ℕ) → Ready (M .records) back (M .sizes) → Passing l j x → j < M .sizes .rules → FiresAt j x y → Onward x y (getD back j 0) j j₁
       → Passing l j₁ y
   passing-turn back l j x y j₁ R P h F on = record { below = below; still = still }
     where
@@ -93,8 +98,8 @@ module _ (M : Masks) (B : Bound) where
       }
 
 -- Either the set grows or the pass goes on behind j.
-pub pass-falls : (heads pos neg gate : List ℕ) (B : Bound) (k m j x y b j₁ : ℕ) → k + m ≤ 128 → j < k → y < 2 ^ 64 → FiredAt heads pos neg gate j B x y → Onward x y b j j₁
+pub pass-falls : (t gate : List ℕ) (B : Bound) (k m j x y b j₁ : ℕ) → k + m ≤ 128 → j < k → y < 2 ^ 64 → FiredAt t gate j B x y → Onward x y b j j₁
     → 129 * (2 ^ 64 - y) + (k - j₁) < 129 * (2 ^ 64 - x) + (k - j)
-pass-falls heads pos neg gate B k m j x y b j₁ few h small F on =
+pass-falls t gate B k m j x y b j₁ few h small F on =
     let up = F .fired .grows in
     by-bool (eqb x y) (λ q. let e = eqb-true x y q in let next = on .same e in omega arith) (λ q. let ne = eqb-false x y q in omega arith)

@@ -46,17 +46,17 @@ module _ (x c y : ℕ) (W : With x c y) where
   with-cases a e = ⊎-elim (λ q. inl (eqb-true a c q)) inr (or-cases (eqb a c) (has x a) (sym (W .members a) ∙ e))
 
 -- The leaf's code.
-module _ (pos neg : List ℕ) (s : Sizes) (i l : ℕ) where
-  pub leaf-lacks : (b : Bool) → Subset i l b → b ≡ false → Leaf pos neg s i l 0
+module _ (t : List ℕ) (s : Sizes) (i l : ℕ) where
+  pub leaf-lacks : (b : Bool) → Subset i l b → b ≡ false → Leaf t s i l 0
   leaf-lacks b S f = record { holds-in = b; asked = S; obeys = true; tested = λ t. absurd (true-false t f); is = rw f refl }
 
-  pub leaf-fits : (b d : Bool) → Subset i l b → b ≡ true → Lawful pos neg s l d → d ≡ true → Leaf pos neg s i l 1
+  pub leaf-fits : (b d : Bool) → Subset i l b → b ≡ true → Lawful t s l d → d ≡ true → Leaf t s i l 1
   leaf-fits b d S t K e = record { holds-in = b; asked = S; obeys = d; tested = λ _. K; is = rw (t, e) refl }
 
-  pub leaf-breaks : (b d : Bool) → Subset i l b → b ≡ true → Lawful pos neg s l d → d ≡ false → Leaf pos neg s i l 0
+  pub leaf-breaks : (b d : Bool) → Subset i l b → b ≡ true → Lawful t s l d → d ≡ false → Leaf t s i l 0
   leaf-breaks b d S t K e = record { holds-in = b; asked = S; obeys = d; tested = λ _. K; is = rw (t, e) refl }
 
-  leaf-small : (v : ℕ) → Leaf pos neg s i l v → v ≤ 1
+  leaf-small : (v : ℕ) → Leaf t s i l v → v ≤ 1
   leaf-small v K =
       by-bool (K .holds-in)
       (λ t. by-bool (K .obeys) (λ d. let e : v ≡ 1 = K .is ∙ rw (t, d) refl in omega arith) (λ d. let e : v ≡ 0 = K .is ∙ rw (t, d) refl in omega arith))
@@ -67,9 +67,9 @@ module _ (M : Masks) (d : Decisions) (l : ℕ) (B : LeastBy M (lower d) 0 l) whe
   pub last-met : (r : ℕ) → r < 2 ^ 64 → Both l (d .outs) r → (r ≡ 0 → ⊥) → Last M d 0
   last-met r s W ne = record { is = λ n rs cs T _. sym (met n rs cs M d T l B r s W ne); small = omega arith }
 
-  pub last-leaf : (r v : ℕ) → r < 2 ^ 64 → Both l (d .outs) r → r ≡ 0 → Leaf (M .pos) (M .neg) (M .sizes) (d .ins) l v → Last M d v
+  pub last-leaf : (r v : ℕ) → r < 2 ^ 64 → Both l (d .outs) r → r ≡ 0 → Leaf (M .records) (M .sizes) (d .ins) l v → Last M d v
   last-leaf r v s W z K =
-      record { is = λ n rs cs T all-decided. candidate n rs cs M d T l B all-decided r s W z v K; small = leaf-small (M .pos) (M .neg) (M .sizes) (d .ins) l v K }
+      record { is = λ n rs cs T all-decided. candidate n rs cs M d T l B all-decided r s W z v K; small = leaf-small (M .records) (M .sizes) (d .ins) l v K }
 
 -- Fewer atoms are undecided.
 fewer : (d : Decisions) (i o c : ℕ) → Inside (has (d .ins)) (has i) → Inside (has (d .outs)) (has o) → c < 64 → isOpen d c ≡ true → (has i c || has o c) ≡ true

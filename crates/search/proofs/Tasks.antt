@@ -14,7 +14,7 @@ use Rattle.lists.proofs.Members.{all-at, all-intro, all-fails, filter-cong, ran
 use Rattle.asp.specs.Program.{Body, State, outside, holds}
 use Rattle.asp.specs.LeastModel.{Inside}
 use Rattle.asp.specs.Least.{Least}
-use Rattle.asp.specs.Count.{with, states}
+use Rattle.asp.specs.Count.{states}
 use Rattle.search.specs.inner.Decided.{CountRule, applies, surely, possibly, isStableBy, agrees, countBy}
 use Rattle.asp.proofs.Counted.{states-within}
 use Rattle.search.proofs.Branching.{StableBy, stable-by-out, fires-out, definites-more, sure-applies, none-counted, upper-inside, agree-in, agree-out, agree-make, clash-lower, clash-upper, leaf-one, leaf-unlawful}
@@ -191,7 +191,7 @@ module _ (n : ℕ) (rs : List CountRule) (cs : List Body) (M : Masks) (d : Decis
             (λ a _ y. is-false (λ x. true-false (W .members a ∙ and-intro x y) (ap (λ z. has z a) zero-both ∙ zero-has a)))
 
         -- The candidate is a stable model or not.
-        pub candidate : (v : ℕ) → Leaf (M .pos) (M .neg) (M .sizes) i l v → v ≡ agreeing n rs cs d
+        pub candidate : (v : ℕ) → Leaf (M .records) (M .sizes) i l v → v ≡ agreeing n rs cs d
         candidate v K = by-bool (K .holds-in) (λ t. by-bool (K .obeys) (fits t) (breaks t)) out
           where
             law : K .holds-in ≡ true → K .obeys ≡ all (λ b. not (holds (has l) b)) cs

@@ -12,11 +12,10 @@ use Rattle.lists.proofs.Bools.{by-bool}
 use Rattle.lists.proofs.Members.{range-in}
 use Rattle.unfolding.specs.Default.{members}
 use Rattle.bits.specs.inner.Visited.{listed}
-use Rattle.sheet.specs.Questions.{_then_}
 use Rattle.sheet.specs.Sheet.{programOf, program}
 use Rattle.sheet.specs.declared.Limits.{Limits}
 use Rattle.sheet.proofs.Questions.{then-refused, then-zero}
-use Rattle.translation.specs.inner.Records.{table, recordsIn}
+use Rattle.translation.specs.inner.Records.{held, recordsIn}
 use Rattle.components.specs.Limit.{componentsFit}
 use Rattle.components.specs.inner.Reachability.{EdgesOf, ComponentsOf, SetsOf, named}
 use Rattle.components.proofs.Naming.{sets-named}
@@ -30,31 +29,31 @@ use Rattle.sheet_check.specs.inner.Checked.{BytesChecked, Expands, Graph
 use Rattle.sheet_check.specs.declared.SheetNumbers.{SheetNumbers}
 use Rattle.sheet_check.proofs.Bytes.{kept-program, kept-expands}
 
-module _ (L : Limits) (s : List ℕ) (S : Supported L) (ks hs ps ns : List ℕ) (r : SheetNumbers) (B : BytesChecked L s ks hs ps ns r) where
-  refused-here : (es cs ss : List ℕ) (x : SheetNumbers) → x .refusal ≡ sheetRefusal L s → (x .refusal ≡ 0 → ⊥) → RecordsChecked L s ks hs ps ns es cs ss x
+module _ (L : Limits) (s : List ℕ) (S : Supported L) (t : List ℕ) (r : SheetNumbers) (B : BytesChecked L s t r) where
+  refused-here : (es cs ss : List ℕ) (x : SheetNumbers) → x .refusal ≡ sheetRefusal L s → (x .refusal ≡ 0 → ⊥) → RecordsChecked L s t es cs ss x
   refused-here es cs ss x e ne =
       record { asked = record { says = e; accepted = λ z. absurd (ne z); edged = λ z. absurd (ne z) }; kept = λ z. absurd (ne z) }
 
-  pub checked-bytes : (es cs ss : List ℕ) → (r .refusal ≡ 0 → ⊥) → RecordsChecked L s ks hs ps ns es cs ss r
+  pub checked-bytes : (es cs ss : List ℕ) → (r .refusal ≡ 0 → ⊥) → RecordsChecked L s t es cs ss r
   checked-bytes es cs ss ne =
       refused-here es cs ss r (B .says ∙ sym (sheet-parted L s ∙ then-refused (bytesRefusal L s) _ (λ z. ne (B .says ∙ z)))) ne
 
   module _ (z : r .refusal ≡ 0) where
-    pub checked-expands : Expands (table (r .records) ks hs ps ns) r
-    checked-expands = kept-expands L s S ks hs ps ns r (B .accepted z) (B .kept z)
+    pub checked-expands : Expands (held (r .records) t) r
+    checked-expands = kept-expands L s S t r (B .accepted z) (B .kept z)
 
-    module _ (es cs ss : List ℕ) (q : ℕ) (G : GraphChecked L (r .written) (recordsIn (table (r .records) ks hs ps ns)) es cs ss q) where
-      same : programOf (r .written) (recordsIn (table (r .records) ks hs ps ns)) ≡ program s
-      same = kept-program L s S ks hs ps ns r (B .accepted z) (B .kept z)
+    module _ (es cs ss : List ℕ) (q : ℕ) (G : GraphChecked L (r .written) (recordsIn (held (r .records) t)) es cs ss q) where
+      same : programOf (r .written) (recordsIn (held (r .records) t)) ≡ program s
+      same = kept-program L s S t r (B .accepted z) (B .kept z)
 
       says : q ≡ sheetRefusal L s
       says = G .says ∙ (ap (graphRefusal L) same ∙ sym (sheet-parted L s ∙ then-zero (bytesRefusal L s) _ (sym (B .says) ∙ z)))
 
-      pub checked-graph : (x : SheetNumbers) → (q ≡ 0 → ⊥) → x .refusal ≡ q → RecordsChecked L s ks hs ps ns es cs ss x
+      pub checked-graph : (x : SheetNumbers) → (q ≡ 0 → ⊥) → x .refusal ≡ q → RecordsChecked L s t es cs ss x
       checked-graph x ne e = refused-here es cs ss x (e ∙ says) (λ z. ne (sym e ∙ z))
 
-      pub checked-fine : q ≡ 0 → RecordsChecked L s ks hs ps ns es cs ss r
-      checked-fine y =
+      fine : q ≡ 0 → RecordsChecked L s t es cs ss r
+      fine y =
           let P = sheet-passed L s (sym says ∙ y) in
           record {
             asked = record {
@@ -69,6 +68,9 @@ module _ (L : Limits) (s : List ℕ) (S : Supported L) (ks hs ps ns : List ℕ) 
             };
             kept = B .kept;
           }
+
+      pub checked-fine : (x : SheetNumbers) → q ≡ 0 → x ≡ r → RecordsChecked L s t es cs ss x
+      checked-fine x y e = rw e (fine y)
 
 -- A sheet that is accepted.
 module _ (L : Limits) (s cs ss : List ℕ) (r : SheetNumbers) (A : SheetAccepted L s cs ss r) where

@@ -4,11 +4,12 @@ use components::largest;
 use reader::read_header;
 use reader::read_records;
 use sheet::Limits;
+use tables::Table;
 use translation::choices_in;
 use translation::edges_of;
 ghost use mathlib.Core.Path.{_≡_};
-ghost use Rattle.reader.specs.inner.Tabled.{RecordArrays};
-ghost use Rattle.translation.specs.inner.Records.{table, recordsIn};
+ghost use lib.ListN.{length};
+ghost use Rattle.translation.specs.inner.Records.{held, recordsIn};
 ghost use Rattle.operations.specs.Requirements.{Supported};
 ghost use Rattle.sheet_check.specs.inner.Checked.{BytesChecked, Expands, GraphArrays, sizesRefusal, GraphChecked, SheetChecked, RecordsChecked};
 
@@ -32,17 +33,10 @@ fn refused(refusal: u32) -> SheetNumbers
 }
 
 // The questions about the bytes and the records of a sheet: 1 to 3, then 4 to 6 as its records are read, then 13. The records are left in
-// the arrays.
-pub fn check_bytes(
-    limits: Limits,
-    s: &[u8],
-    kinds: &mut [u8; 128],
-    heads: &mut [u8; 128],
-    pos: &mut [u64; 128],
-    neg: &mut [u64; 128],
-) -> SheetNumbers
-    requires { ⌜ Supported limits × RecordArrays (now kinds) (now heads) (now pos) (now neg) ⌝ }
-    ensures { λ r. ⌜ BytesChecked limits (now (s .entry)) (now (kinds .exit)) (now (heads .exit)) (now (pos .exit)) (now (neg .exit)) r ⌝ }
+// the table.
+pub fn check_bytes(limits: Limits, s: &[u8], records: &mut Table) -> SheetNumbers
+    requires { ⌜ Supported limits × (length (now records) ≡ 384) ⌝ }
+    ensures { λ r. ⌜ BytesChecked limits (now (s .entry)) (now (records .exit)) r ⌝ }
 {
     let header = read_header(limits, s);
     if header.refusal != 0 {
@@ -50,11 +44,11 @@ pub fn check_bytes(
     }
     let n = header.atoms;
     let m = header.records;
-    let refusal = read_records(s, n, m, kinds, heads, pos, neg);
+    let refusal = read_records(s, n, m, records);
     if refusal != 0 {
         return refused(refusal);
     }
-    let atoms = n + choices_in(kinds, m);
+    let atoms = n + choices_in(records, m);
     if limits.atoms < atoms {
         return refused(13);
     }
@@ -84,70 +78,43 @@ fn sizes_refusal(limits: Limits, atoms: usize, largest: usize) -> u32
 
 // The questions about the graph of records: 7, then 15. The edges of their program, its components' names and their sets are left in the
 // arrays, and the atoms that lead to each where there is room for them.
-pub fn check_graph<'a>(
+pub fn check_graph(
     limits: Limits,
     numbers: SheetNumbers,
-    kinds: &'a [u8; 128],
-    heads: &'a [u8; 128],
-    pos: &'a [u64; 128],
-    neg: &'a [u64; 128],
+    records: &Table,
     edges: &mut [u64; 64],
     names: &mut [u8; 64],
     sets: &mut [u64; 64],
     ancestors: &mut [u64],
 ) -> u32
-    requires { ⌜ Expands (table (numbers .records) (now kinds) (now heads) (now pos) (now neg)) numbers × GraphArrays (now edges) (now names) (now sets) ⌝ }
-    ensures { λ r. ⌜ GraphChecked limits (numbers .written) (recordsIn (table (numbers .records) (now (kinds .entry)) (now (heads .entry)) (now (pos .entry)) (now (neg .entry))))
+    requires { ⌜ Expands (held (numbers .records) (now records)) numbers × GraphArrays (now edges) (now names) (now sets) ⌝ }
+    ensures { λ r. ⌜ GraphChecked limits (numbers .written) (recordsIn (held (numbers .records) (now (records .entry))))
         (now (edges .exit)) (now (names .exit)) (now (sets .exit)) r ⌝ }
 {
     let atoms = numbers.atoms;
-    edges_of(
-        numbers.written,
-        numbers.records,
-        kinds,
-        heads,
-        pos,
-        neg,
-        edges,
-    );
+    edges_of(numbers.written, numbers.records, records, edges);
     components_of(atoms, edges, names, sets, ancestors);
     sizes_refusal(limits, atoms, largest(sets, atoms))
 }
 
-// The questions about a sheet: 1 to 6, 13, then 7 and 15. The records and their graph are left in the arrays.
+// The questions about a sheet: 1 to 6, 13, then 7 and 15. The records are left in the table, and their graph in the arrays.
 pub fn check_records(
     limits: Limits,
     s: &[u8],
-    kinds: &mut [u8; 128],
-    heads: &mut [u8; 128],
-    pos: &mut [u64; 128],
-    neg: &mut [u64; 128],
+    records: &mut Table,
     edges: &mut [u64; 64],
     names: &mut [u8; 64],
     sets: &mut [u64; 64],
     ancestors: &mut [u64],
 ) -> SheetNumbers
-    requires { ⌜ Supported limits × RecordArrays (now kinds) (now heads) (now pos) (now neg)
-        × GraphArrays (now edges) (now names) (now sets) ⌝ }
-    ensures { λ r. ⌜ RecordsChecked limits (now (s .entry)) (now (kinds .exit)) (now (heads .exit)) (now (pos .exit)) (now (neg .exit))
-        (now (edges .exit)) (now (names .exit)) (now (sets .exit)) r ⌝ }
+    requires { ⌜ Supported limits × (length (now records) ≡ 384) × GraphArrays (now edges) (now names) (now sets) ⌝ }
+    ensures { λ r. ⌜ RecordsChecked limits (now (s .entry)) (now (records .exit)) (now (edges .exit)) (now (names .exit)) (now (sets .exit)) r ⌝ }
 {
-    let numbers = check_bytes(limits, s, kinds, heads, pos, neg);
+    let numbers = check_bytes(limits, s, records);
     if numbers.refusal != 0 {
         return numbers;
     }
-    let refusal = check_graph(
-        limits,
-        numbers,
-        kinds,
-        heads,
-        pos,
-        neg,
-        edges,
-        names,
-        sets,
-        ancestors,
-    );
+    let refusal = check_graph(limits, numbers, records, edges, names, sets, ancestors);
     if refusal != 0 {
         return refused(refusal);
     }
@@ -165,21 +132,7 @@ pub fn check_sheet(
     requires { ⌜ Supported limits × GraphArrays (now edges) (now names) (now sets) ⌝ }
     ensures { λ r. ⌜ SheetChecked limits (now (s .entry)) (now (edges .exit)) (now (names .exit)) (now (sets .exit)) r ⌝ }
 {
-    let mut kinds = [0u8; 128];
-    let mut heads = [0u8; 128];
-    let mut pos = [0u64; 128];
-    let mut neg = [0u64; 128];
+    let mut records = [0u64; 384];
     let mut none = [0u64; 0];
-    check_records(
-        limits,
-        s,
-        &mut kinds,
-        &mut heads,
-        &mut pos,
-        &mut neg,
-        edges,
-        names,
-        sets,
-        &mut none,
-    )
+    check_records(limits, s, &mut records, edges, names, sets, &mut none)
 }

@@ -18,12 +18,13 @@ use Rattle.bits.specs.inner.Sets.{has, Either}
 use Rattle.bits.specs.inner.Visited.{listed}
 use Rattle.bits.proofs.Digits.{zero-has}
 use Rattle.bits.proofs.Visiting.{listed-member}
+use Rattle.tables.specs.inner.Rows.{rowAt}
+use Rattle.tables.specs.declared.SheetRecord.{SheetRecord}
 use Rattle.sheet.specs.Sheet.{recordRules, nextFresh, unless, rulesOf, programOf}
 use Rattle.reader.specs.inner.Tabled.{recordOf}
-use Rattle.translation.specs.declared.SheetRecord.{SheetRecord}
-use Rattle.translation.specs.inner.Records.{Records, recordsFrom, recordsIn, recordIn, recordAtIndex, RecordAt, Expandable, FreshFor}
+use Rattle.translation.specs.inner.Records.{Records, recordsFrom, recordsIn, Expandable, FreshFor}
 use Rattle.translation.specs.inner.Linked.{leads, Linked, RowsLinked, RecordLinked, EdgesIn}
-use Rattle.translation.proofs.Records.{records-left, records-over, records-all, record-is, Numbering, numbering-start, numbering-turn, fresh-for}
+use Rattle.translation.proofs.Records.{records-left, records-over, records-all, Numbering, numbering-start, numbering-turn, fresh-for}
 
 -- One row.
 pub linked : (rows : List ℕ) (h x r : ℕ) → length rows ≡ 64 → h < 64 → x < 2 ^ 64 → Either (getD rows h 0) x r → Linked h x rows (set rows h r)
@@ -118,21 +119,21 @@ module _ (n : ℕ) (t : Records) where
       })
 
   module _ (j : ℕ) (rows : List ℕ) (fresh : ℕ) (L : Linking n t j rows fresh) where
-    module _ (l : j < t .count) (r : SheetRecord) (R : RecordAt (t .kinds) (t .heads) (t .pos) (t .neg) j r) where
+    module _ (l : j < t .count) (r : SheetRecord) (R : r ≡ rowAt (t .words) j) where
       pub linking-fresh : Expandable n t → FreshFor r fresh
       linking-fresh E = fresh-for n t E j fresh (L .number) l r R
 
       pub linking-turn : (new : List ℕ) (next : ℕ) → RecordLinked r fresh rows new next → Linking n t (j + 1) new next
       unfolding rulesOf
       linking-turn new next M =
-          let is = record-is t j r R in
-          let e : next ≡ nextFresh fresh (recordAtIndex t j) = M .next ∙ ap (nextFresh fresh) is in
+          let is = ap recordOf R in
+          let e : next ≡ nextFresh fresh (recordOf (rowAt (t .words) j)) = M .next ∙ ap (nextFresh fresh) is in
           record {
             long = M .rows .long;
             number = numbering-turn n t j fresh next (L .number) l e;
             bits = λ a b s.
                 let rest = rulesOf next (recordsFrom t (j + 1)) in
-                let here = recordRules fresh (recordIn r) in
+                let here = recordRules fresh (recordOf r) in
                 let old = has (getD rows a 0) b in
                 let split : rulesOf fresh (recordsFrom t j) ≡ here ++ rest = ap (rulesOf fresh) (records-left t j l) ∙ rw (is, e) refl in
                 ap (λ (z : Bool). leads rest a b || z) (M .rows .bits a b)

@@ -3,14 +3,21 @@ use bits::has;
 use bits::union;
 use bits::wide;
 use program::ProgramSize;
+use tables::Program;
+use tables::ProgramEntry;
+use tables::SheetRecord;
+use tables::Table;
+use tables::record_at;
+use tables::store_entry;
 ghost use mathlib.Core.Bool.{cond};
 ghost use mathlib.Core.Path.{_≡_};
 ghost use Prim.Native.Nat.{suc, _≤_, _<_};
 ghost use lib.Dec.{eqb};
 ghost use lib.ListN.{length, replicate};
-ghost use Rattle.program.specs.inner.Held.{Sources, tableOf};
+ghost use Rattle.program.specs.inner.Held.{tableOf};
 ghost use Rattle.sheet.specs.Sheet.{recordRules};
-ghost use Rattle.translation.specs.inner.Records.{table, recordIn, recordsIn, RecordAt, ChoicesIn, Expandable, FreshFor};
+ghost use Rattle.reader.specs.inner.Tabled.{recordOf};
+ghost use Rattle.translation.specs.inner.Records.{held, recordsIn, ChoicesIn, Expandable, FreshFor};
 ghost use Rattle.translation.specs.inner.Linked.{Linked, RecordLinked, EdgesIn};
 ghost use Rattle.translation.specs.inner.Translated.{entries, Room, Appended, EntryAppended, AddedTo, constraintOf, Translated};
 
@@ -26,44 +33,18 @@ fn next_fresh(kind: usize, fresh: usize) -> usize
 }
 
 // The number of choice rules among the first m records.
-pub fn choices_in(kinds: &[u8; 128], m: usize) -> usize
+pub fn choices_in(records: &Table, m: usize) -> usize
     requires { ⌜ m ≤ 128 ⌝ }
-    ensures { λ r. ⌜ ChoicesIn (now (kinds .entry)) m r ⌝ }
+    ensures { λ r. ⌜ ChoicesIn (now (records .entry)) m r ⌝ }
 {
     let mut number = 0;
     let mut j = 0;
     while j < m {
-        number = next_fresh(wide(kinds[j]), number);
+        let r = record_at(records, j);
+        number = next_fresh(wide(r.kind), number);
         j += 1;
     }
     number
-}
-
-// A record.
-pub struct SheetRecord {
-    pub kind: u8,
-    pub head: u8,
-    pub pos: u64,
-    pub neg: u64,
-}
-
-// The record at j.
-fn record_at<'a>(
-    kinds: &'a [u8; 128],
-    heads: &'a [u8; 128],
-    pos: &'a [u64; 128],
-    neg: &'a [u64; 128],
-    j: usize,
-) -> SheetRecord
-    requires { ⌜ j < 128 ⌝ }
-    ensures { λ r. ⌜ RecordAt (now (kinds .entry)) (now (heads .entry)) (now (pos .entry)) (now (neg .entry)) j r ⌝ }
-{
-    SheetRecord {
-        kind: kinds[j],
-        head: heads[j],
-        pos: pos[j],
-        neg: neg[j],
-    }
 }
 
 // The atoms of a set get edges to h.
@@ -94,22 +75,14 @@ fn link_record(rows: &mut [u64; 64], r: SheetRecord, fresh: usize) -> usize
 }
 
 // The edges of the program of the first m records over n written atoms, put into rows that are empty.
-pub fn edges_of<'a>(
-    n: usize,
-    m: usize,
-    kinds: &'a [u8; 128],
-    heads: &'a [u8; 128],
-    pos: &'a [u64; 128],
-    neg: &'a [u64; 128],
-    rows: &mut [u64; 64],
-)
-    requires { ⌜ Expandable n (table m (now kinds) (now heads) (now pos) (now neg)) × (now rows ≡ replicate 64 0) ⌝ }
-    ensures { λ r. ⌜ EdgesIn n (table m (now (kinds .entry)) (now (heads .entry)) (now (pos .entry)) (now (neg .entry))) (now (rows .exit)) ⌝ }
+pub fn edges_of(n: usize, m: usize, records: &Table, rows: &mut [u64; 64])
+    requires { ⌜ Expandable n (held m (now records)) × (now rows ≡ replicate 64 0) ⌝ }
+    ensures { λ r. ⌜ EdgesIn n (held m (now (records .entry))) (now (rows .exit)) ⌝ }
 {
     let mut fresh = n;
     let mut j = 0;
     while j < m {
-        let r = record_at(kinds, heads, pos, neg, j);
+        let r = record_at(records, j);
         fresh = link_record(rows, r, fresh);
         j += 1;
     }
@@ -126,143 +99,83 @@ fn added_atom(neg: u64, a: usize) -> u8
     ((a + 1) % 256) as u8
 }
 
-// An entry of a program's table.
-pub struct TableEntry {
-    pub head: u8,
-    pub pos: u64,
-    pub source: u8,
-    pub added: u8,
-}
-
 // Stores an entry at k; the index that comes next.
-fn store(
-    heads: &mut [u8; 192],
-    pos: &mut [u64; 192],
-    sources: &mut [u8; 192],
-    added: &mut [u8; 192],
-    k: usize,
-    e: TableEntry,
-) -> usize
-    requires { ⌜ Room 1 (entries k (now heads) (now pos) (now sources) (now added)) × (e .source < 128) ⌝ }
-    ensures { λ r. ⌜ EntryAppended (entries k (now (heads .entry)) (now (pos .entry)) (now (sources .entry)) (now (added .entry))) e
-        (entries r (now (heads .exit)) (now (pos .exit)) (now (sources .exit)) (now (added .exit))) ⌝ }
+fn store(program: &mut Program, k: usize, e: ProgramEntry) -> usize
+    requires { ⌜ Room 1 (entries k (now program)) × (e .source < 128) ⌝ }
+    ensures { λ r. ⌜ EntryAppended (entries k (now (program .entry))) e (entries r (now (program .exit))) ⌝ }
 {
-    heads[k] = e.head;
-    pos[k] = e.pos;
-    sources[k] = e.source;
-    added[k] = e.added;
+    store_entry(program, k, e);
     k + 1
 }
 
-// Stores the rules of a record from k on, with the source of its negative atoms; the index that comes next.
-fn store_rules(
-    heads: &mut [u8; 192],
-    pos: &mut [u64; 192],
-    sources: &mut [u8; 192],
-    added: &mut [u8; 192],
-    k: usize,
-    r: SheetRecord,
-    source: u8,
-    fresh: usize,
-) -> usize
-    requires { ⌜ Room (length (recordRules fresh (recordIn r))) (entries k (now heads) (now pos) (now sources) (now added))
-        × FreshFor r fresh × (source < 128) ⌝ }
-    ensures { λ next. ⌜ Appended source (r .neg) (entries k (now (heads .entry)) (now (pos .entry)) (now (sources .entry)) (now (added .entry)))
-        (recordRules fresh (recordIn r))
-        (entries next (now (heads .exit)) (now (pos .exit)) (now (sources .exit)) (now (added .exit))) ⌝ }
+// Stores the rules of a record from k on, with the index of the record as their source; the index that comes next.
+fn store_rules(program: &mut Program, k: usize, r: SheetRecord, source: u8, fresh: usize) -> usize
+    requires { ⌜ Room (length (recordRules fresh (recordOf r))) (entries k (now program)) × FreshFor r fresh × (source < 128) ⌝ }
+    ensures { λ next. ⌜ Appended source r (entries k (now (program .entry))) (recordRules fresh (recordOf r)) (entries next (now (program .exit))) ⌝ }
 {
     let kind = wide(r.kind);
     if kind == 0 {
-        let rule = TableEntry {
+        let rule = ProgramEntry {
             head: r.head,
-            pos: r.pos,
             source,
             added: 0,
         };
-        return store(heads, pos, sources, added, k, rule);
+        return store(program, k, rule);
     }
     if kind == 2 {
         let head = wide(r.head);
-        let chosen = TableEntry {
+        let chosen = ProgramEntry {
             head: r.head,
-            pos: r.pos,
             source,
             added: added_atom(r.neg, fresh),
         };
-        let second = store(heads, pos, sources, added, k, chosen);
-        let other = TableEntry {
+        let second = store(program, k, chosen);
+        let other = ProgramEntry {
             head: (fresh % 256) as u8,
-            pos: r.pos,
             source,
             added: added_atom(r.neg, head),
         };
-        return store(heads, pos, sources, added, second, other);
+        return store(program, second, other);
     }
     k
 }
 
-// Stores a record at k, where it is a constraint, with the source of its negative atoms; the index that comes next.
-fn store_constraint(
-    heads: &mut [u8; 192],
-    pos: &mut [u64; 192],
-    sources: &mut [u8; 192],
-    added: &mut [u8; 192],
-    k: usize,
-    r: SheetRecord,
-    source: u8,
-) -> usize
-    requires { ⌜ Room (length (constraintOf (recordIn r))) (entries k (now heads) (now pos) (now sources) (now added)) × (source < 128) ⌝ }
-    ensures { λ next. ⌜ Appended source (r .neg) (entries k (now (heads .entry)) (now (pos .entry)) (now (sources .entry)) (now (added .entry)))
-        (constraintOf (recordIn r))
-        (entries next (now (heads .exit)) (now (pos .exit)) (now (sources .exit)) (now (added .exit))) ⌝ }
+// Stores a record at k, where it is a constraint, with its source; the index that comes next.
+fn store_constraint(program: &mut Program, k: usize, r: SheetRecord, source: u8) -> usize
+    requires { ⌜ Room (length (constraintOf (recordOf r))) (entries k (now program)) × (source < 128) ⌝ }
+    ensures { λ next. ⌜ Appended source r (entries k (now (program .entry))) (constraintOf (recordOf r)) (entries next (now (program .exit))) ⌝ }
 {
     if wide(r.kind) == 1 {
-        let body = TableEntry {
+        let body = ProgramEntry {
             head: r.head,
-            pos: r.pos,
             source,
             added: 0,
         };
-        return store(heads, pos, sources, added, k, body);
+        return store(program, k, body);
     }
     k
 }
 
 // The program of the first m records over n written atoms: the rules of each record in its place, and behind them the constraints. The
 // source of an entry is the record that it comes from.
-pub fn program_of<'a>(
-    n: usize,
-    m: usize,
-    kinds: &'a [u8; 128],
-    record_heads: &'a [u8; 128],
-    record_pos: &'a [u64; 128],
-    neg: &'a [u64; 128],
-    heads: &mut [u8; 192],
-    pos: &mut [u64; 192],
-    sources: &mut [u8; 192],
-    added: &mut [u8; 192],
-) -> ProgramSize
-    requires { ⌜ Expandable n (table m (now kinds) (now record_heads) (now record_pos) (now neg))
-        × Room 0 (entries 0 (now heads) (now pos) (now sources) (now added)) ⌝ }
-    ensures { λ r. ⌜ Translated n
-        (recordsIn (table m (now (kinds .entry)) (now (record_heads .entry)) (now (record_pos .entry)) (now (neg .entry))))
-        (tableOf r (now (heads .exit)) (now (pos .exit)) (now (sources .exit)) (now (neg .entry)) (now (added .exit)))
-        × Sources (now (sources .exit)) ⌝ }
+pub fn program_of(n: usize, m: usize, records: &Table, program: &mut Program) -> ProgramSize
+    requires { ⌜ Expandable n (held m (now records)) × Room 0 (entries 0 (now program)) ⌝ }
+    ensures { λ r. ⌜ Translated n (recordsIn (held m (now (records .entry)))) (tableOf r (now (records .entry)) (now (program .exit))) ⌝ }
 {
     let mut fresh = n;
     let mut rules = 0;
     let mut j = 0;
     while j < m {
-        let r = record_at(kinds, record_heads, record_pos, neg, j);
-        rules = store_rules(heads, pos, sources, added, rules, r, j as u8, fresh);
+        let r = record_at(records, j);
+        rules = store_rules(program, rules, r, j as u8, fresh);
         fresh = next_fresh(wide(r.kind), fresh);
         j += 1;
     }
     let mut all = rules;
     let mut i = 0;
     while i < m {
-        let r = record_at(kinds, record_heads, record_pos, neg, i);
-        all = store_constraint(heads, pos, sources, added, all, r, i as u8);
+        let r = record_at(records, i);
+        all = store_constraint(program, all, r, i as u8);
         i += 1;
     }
     ProgramSize {

@@ -1,3 +1,1 @@
-pub mod Body
-pub mod Sizes
 pub mod Whole

@@ -2,10 +2,6 @@ use borrow.Author.Needs.{needs}
 use Rattle.bits.proofs.Listing.{Walking, walking-start, walking-room, walking-turn, walking-end}
 use Rattle.bits.proofs.list_set.Statement.{statement}
 use Rattle.bits.proofs.list_set.Tie as tie
-use Rattle.bits.proofs.list_set.Reads as reads
-use Rattle.bits.proofs.list_set.Lts as lts
-use Rattle.bits.proofs.lowest.Reads as lowest-reads
-use Rattle.bits.proofs.rest.Reads as rest-reads
 
 abbrev Inv-loop : tie.InvT-loop
 Inv-loop x atoms₀ t₀ left₀ atoms t left = Walking x left t atoms

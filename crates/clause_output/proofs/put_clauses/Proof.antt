@@ -1,6 +1,6 @@
 -- `clause_output::put_clauses` meets its contract, one law for each way through it.
-use Rattle.clause_output.proofs.Whole.{all-first, all-second, all-wrote}
 use borrow.Author.Needs.{needs}
+use Rattle.clause_output.proofs.Whole.{all-first, all-second, all-wrote}
 use Rattle.clause_output.proofs.put_clauses.Statement.{statement}
 use Rattle.clause_output.proofs.put_clauses.Tie as tie
 
@@ -11,14 +11,10 @@ last-copies-requires : tie.Need-last-copies-requires
 last-copies-requires c κs = search needs
 
 put-copies-requires : tie.Need-put-copies-requires
-put-copies-requires c κs = (search needs, search needs, search needs, search (needs, all-first))
+put-copies-requires c κs = search (needs, all-first)
 
 put-backs-requires : tie.Need-put-backs-requires
-put-backs-requires c κs =
-    let copies = c .before .before .before .before in
-    let table = copies .before .before .before .before in
-    let start = table .before .before .before in
-    (start .pre .0, table .last-copies .ensures, start .pre .1 .readable .few, all-second _ _ _ _ (start .pre .1) _ _ (table .last-copies .ensures) (start .pre .2) _ _ (copies .put-copies .ensures))
+put-backs-requires c κs = (search needs, search needs, search (needs, all-second))
 
 same-length : tie.Need-same-length
 same-length c = search needs

@@ -3,9 +3,6 @@ use native.Mathlib.Omega.{arith}
 use borrow.Author.Needs.{needs}
 use Rattle.component_output.proofs.block_length.Statement.{statement}
 use Rattle.component_output.proofs.block_length.Tie as tie
-use Rattle.component_output.proofs.block_length.Reads as reads
-use Rattle.component_output.proofs.block_length.Lts as lts
-use Rattle.bits.proofs.size.Reads as size-reads
 
 -- src/lib.rt:74:13
 size-requires : tie.Need-size-requires

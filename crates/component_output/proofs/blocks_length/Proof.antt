@@ -3,9 +3,6 @@ use Rattle.component_output.proofs.Loops.{Adding, adding-start, adding-
 use Prim.Native.Nat.{_-_}
 use Rattle.component_output.proofs.blocks_length.Statement.{statement}
 use Rattle.component_output.proofs.blocks_length.Tie as tie
-use Rattle.component_output.proofs.blocks_length.Reads as reads
-use Rattle.component_output.proofs.blocks_length.Lts as lts
-use Rattle.component_output.proofs.block_length.Reads as block-length-reads
 
 abbrev Inv-loop : tie.InvT-loop
 Inv-loop sets n t₀ c₀ t c = Adding sets n c t

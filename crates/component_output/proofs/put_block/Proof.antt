@@ -6,10 +6,6 @@ use Rattle.lists.specs.Lists.{times}
 use Rattle.bits.specs.inner.Visited.{listed}
 use Rattle.component_output.proofs.put_block.Statement.{statement}
 use Rattle.component_output.proofs.put_block.Tie as tie
-use Rattle.component_output.proofs.put_block.Reads as reads
-use Rattle.component_output.proofs.put_block.Lts as lts
-use Rattle.bits.proofs.size.Reads as size-reads
-use Rattle.component_output.proofs.put_set.Reads as put-set-reads
 
 abbrev Inv-loop : tie.InvT-loop
 Inv-loop out₀ at x next₀ left₀ out next left = Left out₀ at (blockOf x) out next (times left (listed x))

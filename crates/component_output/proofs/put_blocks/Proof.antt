@@ -4,9 +4,6 @@ use Rattle.writer.proofs.Loops.{range-start, range-turn, range-length}
 use Prim.Native.Nat.{_-_}
 use Rattle.component_output.proofs.put_blocks.Statement.{statement}
 use Rattle.component_output.proofs.put_blocks.Tie as tie
-use Rattle.component_output.proofs.put_blocks.Reads as reads
-use Rattle.component_output.proofs.put_blocks.Lts as lts
-use Rattle.component_output.proofs.put_block.Reads as put-block-reads
 
 abbrev Inv-loop : tie.InvT-loop
 Inv-loop out₀ at sets n next₀ c₀ out next c = BlocksLeft sets n out₀ at out next c

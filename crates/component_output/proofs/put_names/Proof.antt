@@ -4,9 +4,6 @@ use Rattle.writer.proofs.Loops.{range-start, range-turn, range-length}
 use Prim.Native.Nat.{_-_}
 use Rattle.component_output.proofs.put_names.Statement.{statement}
 use Rattle.component_output.proofs.put_names.Tie as tie
-use Rattle.component_output.proofs.put_names.Reads as reads
-use Rattle.component_output.proofs.put_names.Lts as lts
-use Rattle.writer.proofs.put.Reads as put-reads
 
 abbrev Inv-loop : tie.InvT-loop
 Inv-loop out₀ at names n next₀ a₀ out next a = NamesLeft names n out₀ at out next a

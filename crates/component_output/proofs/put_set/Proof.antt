@@ -3,11 +3,6 @@ use Rattle.component_output.proofs.Loops.{AtomsLeft, atoms-room, atoms-
 use Rattle.writer.proofs.Loops.{set-start, set-length}
 use Rattle.component_output.proofs.put_set.Statement.{statement}
 use Rattle.component_output.proofs.put_set.Tie as tie
-use Rattle.component_output.proofs.put_set.Reads as reads
-use Rattle.component_output.proofs.put_set.Lts as lts
-use Rattle.bits.proofs.lowest.Reads as lowest-reads
-use Rattle.bits.proofs.rest.Reads as rest-reads
-use Rattle.writer.proofs.put.Reads as put-reads
 
 abbrev Inv-loop : tie.InvT-loop
 Inv-loop out₀ at x next₀ left₀ out next left = AtomsLeft out₀ at x out next left

@@ -3,9 +3,6 @@ use Rattle.components.proofs.Closing.{ClosureRounds, rounds-start, roun
 use borrow.Author.Needs.{needs}
 use Rattle.components.proofs.close.Statement.{statement}
 use Rattle.components.proofs.close.Tie as tie
-use Rattle.components.proofs.close.Reads as reads
-use Rattle.components.proofs.close.Lts as lts
-use Rattle.components.proofs.close_by.Reads as close-by-reads
 
 abbrev Inv-loop : tie.InvT-loop
 Inv-loop rows₀ n k₀ rows k = ClosureRounds n rows₀ k rows × (k ≤ n)

@@ -4,9 +4,6 @@ use native.Mathlib.Omega.{arith}
 use Prim.Native.Nat.{_-_}
 use Rattle.components.proofs.close_by.Statement.{statement}
 use Rattle.components.proofs.close_by.Tie as tie
-use Rattle.components.proofs.close_by.Reads as reads
-use Rattle.components.proofs.close_by.Lts as lts
-use Rattle.components.proofs.row_through.Reads as row-through-reads
 
 abbrev Inv-loop : tie.InvT-loop
 Inv-loop rows₀ k n row a₀ rows a = Closing k rows₀ row a rows

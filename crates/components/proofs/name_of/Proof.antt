@@ -2,11 +2,6 @@ use borrow.Author.Needs.{needs}
 use Rattle.components.proofs.Naming.{Seeking, seeking-start, seeking-past, seeking-found, seeking-turn, seeking-end}
 use Rattle.components.proofs.name_of.Statement.{statement}
 use Rattle.components.proofs.name_of.Tie as tie
-use Rattle.components.proofs.name_of.Reads as reads
-use Rattle.components.proofs.name_of.Lts as lts
-use Rattle.bits.proofs.has.Reads as has-reads
-use Rattle.bits.proofs.lowest.Reads as lowest-reads
-use Rattle.bits.proofs.rest.Reads as rest-reads
 
 abbrev Inv-loop : tie.InvT-loop
 Inv-loop rows a left₀ left = Seeking rows a left

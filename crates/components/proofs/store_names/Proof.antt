@@ -4,9 +4,6 @@ use Rattle.components.proofs.Naming.{Naming, naming-start, naming-turn,
 use borrow.Author.Needs.{needs}
 use Rattle.components.proofs.store_names.Statement.{statement}
 use Rattle.components.proofs.store_names.Tie as tie
-use Rattle.components.proofs.store_names.Reads as reads
-use Rattle.components.proofs.store_names.Lts as lts
-use Rattle.components.proofs.name_of.Reads as name-of-reads
 
 abbrev Inv-loop : tie.InvT-loop
 Inv-loop names₀ rows n a₀ names a = Naming n rows a names

@@ -3,10 +3,6 @@ use Rattle.components.proofs.Naming.{Grouping, grouping-start, grouping
 use borrow.Author.Needs.{needs}
 use Rattle.components.proofs.store_sets.Statement.{statement}
 use Rattle.components.proofs.store_sets.Tie as tie
-use Rattle.components.proofs.store_sets.Reads as reads
-use Rattle.components.proofs.store_sets.Lts as lts
-use Rattle.bits.proofs.wide.Reads as wide-reads
-use Rattle.bits.proofs.with.Reads as with-reads
 
 abbrev Inv-loop : tie.InvT-loop
 Inv-loop sets₀ names n a₀ sets a = Grouping names a sets × (a ≤ n)

@@ -1,6 +1,6 @@
 -- `copies::add_if` meets its contract, one law for each way through it.
-use Rattle.copies.proofs.Keeping.{add-yes}
 use borrow.Author.Needs.{needs}
+use Rattle.copies.proofs.Keeping.{add-yes}
 use Rattle.copies.proofs.add_if.Statement.{statement}
 use Rattle.copies.proofs.add_if.Tie as tie
 

@@ -1,27 +1,18 @@
 -- `copies::kept_rules` meets its contract, one law for each way through it.
-use borrow.Author.Needs.{needs}
 use Prim.Native.Nat.{_-_}
+use borrow.Author.Needs.{needs}
 use Rattle.copies.proofs.Keeping.{Keeping, keeping-start, keeping-turn, keeping-end}
 use Rattle.copies.proofs.kept_rules.Statement.{statement}
 use Rattle.copies.proofs.kept_rules.Tie as tie
 
 abbrev Inv-loop : tie.InvT-loop
-Inv-loop heads pos rules a component keeping entries₀ kept₀ j₀ entries kept j = Keeping heads pos rules a component keeping j entries kept
+Inv-loop records program rules a component keeping entries₀ kept₀ j₀ entries kept j = Keeping records program rules a component keeping j entries kept
 
 abbrev μ-loop : tie.MeasureT-loop
-μ-loop heads pos rules a component keeping entries₀ kept₀ j₀ entries kept j = rules - j
+μ-loop records program rules a component keeping entries₀ kept₀ j₀ entries kept j = rules - j
 
 loop-holds : tie.Need-loop-holds Inv-loop μ-loop
 loop-holds c = search (needs, keeping-start)
-
-element-copy-out-is-kept : tie.Need-element-copy-out-is-kept Inv-loop μ-loop
-element-copy-out-is-kept c = search needs
-
-mul-is-kept : tie.Need-mul-is-kept Inv-loop μ-loop
-mul-is-kept c = search needs
-
-element-copy-out-is-kept-2 : tie.Need-element-copy-out-is-kept-2 Inv-loop μ-loop
-element-copy-out-is-kept-2 c = search needs
 
 is-kept-requires : tie.Need-is-kept-requires Inv-loop μ-loop
 is-kept-requires c κs = search needs
@@ -54,9 +45,6 @@ kept-rules-spec =
     Inv-loop
     μ-loop
     loop-holds
-    element-copy-out-is-kept
-    mul-is-kept
-    element-copy-out-is-kept-2
     is-kept-requires
     cast-entries
     element-write-entries

@@ -1,7 +1,7 @@
 -- `copies::last_copies` meets its contract, one law for each way through it.
+use Prim.Native.Nat.{_-_}
 use borrow.Author.Needs.{needs}
 use Rattle.copies.proofs.Tables.{Filling, filling-start, filling-turn, filling-end}
-use Prim.Native.Nat.{_-_}
 use Rattle.copies.proofs.last_copies.Statement.{statement}
 use Rattle.copies.proofs.last_copies.Tie as tie
 

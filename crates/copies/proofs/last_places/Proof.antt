@@ -1,8 +1,8 @@
 -- `copies::last_places` meets its contract, one law for each way through it.
-use borrow.Author.Needs.{needs}
-use Rattle.copies.proofs.Placing.{Placing, placing-start, placing-low, placing-turn, placing-end}
-use lib.ListN.{length}
 use Prim.Native.Nat.{_-_, _≤_}
+use borrow.Author.Needs.{needs}
+use lib.ListN.{length}
+use Rattle.copies.proofs.Placing.{Placing, placing-start, placing-low, placing-turn, placing-end}
 use Rattle.copies.proofs.last_places.Statement.{statement}
 use Rattle.copies.proofs.last_places.Tie as tie
 

@@ -1,6 +1,6 @@
 -- `copies::mark` meets its contract, one law for each way through it.
-use Rattle.copies.proofs.Keeping.{marked}
 use borrow.Author.Needs.{needs}
+use Rattle.copies.proofs.Keeping.{marked}
 use Rattle.copies.proofs.mark.Statement.{statement}
 use Rattle.copies.proofs.mark.Tie as tie
 

@@ -1,6 +1,6 @@
 -- `copies::negative_atoms` meets its contract, one law for each way through it.
-use Rattle.copies.proofs.Keeping.{negative-fits, negative-none, negative-added}
 use borrow.Author.Needs.{needs}
+use Rattle.copies.proofs.Keeping.{negative-fits, negative-none, negative-added}
 use Rattle.copies.proofs.negative_atoms.Statement.{statement}
 use Rattle.copies.proofs.negative_atoms.Tie as tie
 

@@ -1,19 +1,23 @@
 -- Which rules of a table are kept for a copy.
 use mathlib.Core.Bool.{Bool, not, _&&_, _||_, cond}
-use mathlib.Core.List.{List, [], _∷_, map}
+use mathlib.Core.List.{List, map}
 use mathlib.Core.Path.{_≡_}
-use Prim.Native.Nat.{ℕ, _+_, _≤_, _<_}
+use Prim.Native.Nat.{ℕ, _≤_, _<_}
 use lib.Dec.{eqb, ltb}
-use lib.ListN.{length, getD}
+use lib.ListN.{length, getD, set}
 use Rattle.lists.specs.Lists.{all, filter, range}
 use Rattle.bits.specs.inner.Sets.{has}
 use Rattle.bits.specs.inner.Visited.{listed}
-use Rattle.copies.specs.inner.Bodies.{bodyAtoms}
-use Rattle.copies.specs.declared.KeptNumbers.{KeptNumbers}
+use Rattle.program.specs.inner.Held.{tableRule}
+use Rattle.program.specs.declared.TableRule.{TableRule}
+use Rattle.copies.specs.inner.Tables.{Overlaid}
+use Rattle.copies.specs.declared.Selection.{Selection}
+use Rattle.copies.specs.declared.CopyStep.{CopyStep}
+use Rattle.copies.specs.declared.NewCopy.{NewCopy}
 
 -- A rule is kept for a copy of a: a is its head, and its positive atoms of a's component are among those whose latest copy keeps a rule.
-unfoldable pub keeps : ℕ → ℕ → ℕ → ℕ → ℕ → Bool
-keeps a component keeping head pos = eqb head a && all (λ b. not (has component b) || has keeping b) (listed pos)
+unfoldable pub keeps : ℕ → ℕ → ℕ → TableRule → Bool
+keeps a component keeping r = eqb (r .head) a && all (λ b. not (has component b) || has keeping b) (listed (r .pos))
 
 -- The atoms whose latest copy keeps a rule, behind a copy of a that keeps so many.
 pub record Marked (keeping a rules r : ℕ) : Type 0 where
@@ -21,7 +25,7 @@ pub record Marked (keeping a rules r : ℕ) : Type 0 where
 
 -- The entries of the rules kept for a copy of a, of the first so many.
 unfoldable pub keptEntries : List ℕ → List ℕ → ℕ → ℕ → ℕ → ℕ → List ℕ
-keptEntries heads pos rules a component keeping = filter (λ i. keeps a component keeping (getD heads i 0) (getD pos i 0)) (range 0 rules)
+keptEntries t p rules a component keeping = filter (λ i. keeps a component keeping (tableRule t p i)) (range 0 rules)
 
 -- The first k numbers listed are entries of a table.
 pub record Inside (entries : List ℕ) (k : ℕ) : Type 0 where
@@ -33,27 +37,24 @@ pub record ListedAt (entries : List ℕ) (j r : ℕ) : Type 0 where
   pub is : r ≡ getD entries j 0
   pub low : r < 192
 
+-- The first k numbers that are listed.
+abbrev pub firsts : List ℕ → ℕ → List ℕ
+firsts entries k = map (λ j. getD entries j 0) (range 0 k)
+
 -- The entries of the rules kept for a copy of a are the first k that are listed.
-pub record Kept (heads pos : List ℕ) (rules a component keeping : ℕ) (entries : List ℕ) (k : ℕ) : Type 0 where
+pub record Kept (t p : List ℕ) (rules a component keeping : ℕ) (entries : List ℕ) (k : ℕ) : Type 0 where
   pub long : length entries ≡ 192
-  pub are : map (λ j. getD entries j 0) (range 0 k) ≡ keptEntries heads pos rules a component keeping
+  pub are : firsts entries k ≡ keptEntries t p rules a component keeping
   pub inside : Inside entries k
 
--- Sizes that bodies have.
-pub record SmallSizes (sizes : List ℕ) : Type 0 where
-  pub low : (i : ℕ) → i < 192 → getD sizes i 0 ≤ 129
+-- The step of one copy: its component, the rules kept for it, and the atoms whose latest copy keeps a rule behind it.
+pub record Selected (t p components : List ℕ) (c : Selection) (entries : List ℕ) (r : CopyStep) : Type 0 where
+  pub component : r .component ≡ getD components (c .atom) 0
+  pub kept : Kept t p (c .rules) (c .atom) (r .component) (c .keeping) entries (r .kept)
+  pub marked : Marked (c .keeping) (c .atom) (r .kept) (r .keeping)
 
--- The sizes of the first so many bodies.
-pub record SizesOf (pos neg added : List ℕ) (rules : ℕ) (sizes : List ℕ) : Type 0 where
-  pub is : (i : ℕ) → i < rules → getD sizes i 0 ≡ bodyAtoms (getD pos i 0) (getD neg i 0) (getD added i 0)
-  pub small : SmallSizes sizes
-
--- The sum of the numbers that stand at the indices.
-unfoldable pub sumAt : List ℕ → List ℕ → ℕ
-sumAt sizes [] = 0
-sumAt sizes (i ∷ is) = getD sizes i 0 + sumAt sizes is
-
--- How many rules are kept for a copy of a, and how many atoms their bodies have.
-pub record KeptCounted (heads pos sizes : List ℕ) (rules a component keeping : ℕ) (r : KeptNumbers) : Type 0 where
-  pub number : r .rules ≡ length (keptEntries heads pos rules a component keeping)
-  pub sum : r .atoms ≡ sumAt sizes (keptEntries heads pos rules a component keeping)
+-- The rules of a new copy: those that are selected, the variables that stand in them, and the latest copies behind it.
+pub record CopyMade (t p components latest lasts : List ℕ) (c : NewCopy) (entries after vars : List ℕ) (r : CopyStep) : Type 0 where
+  pub selected : Selected t p components (record { rules = c .k; atom = c .entry .atom; keeping = c .keeping }) entries r
+  pub overlaid : Overlaid (r .component) latest lasts vars
+  pub is-latest : after ≡ set latest (c .entry .atom) (c .entry .var)

@@ -8,12 +8,11 @@ use lib.ListN.{length, getD, drop}
 use Rattle.lists.specs.Lists.{member}
 use Rattle.copies.specs.declared.EntryCopy.{EntryCopy}
 
--- There is an entry at index i, of an atom and a name below 64.
-pub record EntryAt (names q : List ℕ) (i : ℕ) : Type 0 where
+-- There is an entry at index i, of an atom below 64.
+pub record EntryAt (q : List ℕ) (i : ℕ) : Type 0 where
   pub from : 3 ≤ i
   pub within : i < length q
   pub atom : getD q i 0 < 64
-  pub name : getD names (getD q i 0) 0 < 64
 
 -- The atom of entry i stands behind it, too.
 unfoldable pub again : List ℕ → ℕ → Bool
@@ -23,14 +22,9 @@ again q i = member (getD q i 0) (drop (i + 1) q)
 pub record LastPlaces (q places : List ℕ) : Type 0 where
   pub more : (i : ℕ) → 3 ≤ i → i < length q → not (eqb (getD places (getD q i 0) 0) i) ≡ again q i
 
--- The set of the atoms of a's component.
-unfoldable pub componentSet : List ℕ → List ℕ → ℕ → ℕ
-componentSet names sets a = getD sets (getD names a 0) 0
-
 -- The copy of entry i, where `so-far` is the highest variable so far of copies that are not their atom's last.
-pub record Made (q : List ℕ) (i : ℕ) (names sets : List ℕ) (so-far : ℕ) (r : EntryCopy) : Type 0 where
+pub record Made (q : List ℕ) (i so-far : ℕ) (r : EntryCopy) : Type 0 where
   pub atom : r .atom ≡ getD q i 0
   pub low : r .atom < 64
-  pub component : r .component ≡ componentSet names sets (r .atom)
   pub var : r .var ≡ cond (again q i) (suc so-far) (suc (getD q i 0))
   pub highest : r .highest ≡ cond (again q i) (suc so-far) so-far

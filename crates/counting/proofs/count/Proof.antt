@@ -1,5 +1,6 @@
-use Rattle.counting.proofs.Deciding.{size-few, found-many, found-exact}
+-- `counting::count` meets its contract, one law for each way through it.
 use borrow.Author.Needs.{needs}
+use Rattle.counting.proofs.Deciding.{size-few, found-many, found-exact}
 use Rattle.counting.proofs.count.Statement.{statement}
 use Rattle.counting.proofs.count.Tie as tie
 
@@ -10,18 +11,13 @@ size-requires : tie.Need-size-requires
 size-requires c κs = search needs
 
 returns : tie.Need-returns
-returns c = found-many _ _ _ (c .before .before .asked-atoms .ensures) (c .before .before .before .before .before .before .pre .2) _ (c .before .size .ensures) (c .if1 .taken)
+returns c = search (needs, found-many)
 
 count-models-requires : tie.Need-count-models-requires
-count-models-requires c κs =
-    let asked = c .before .before .before .before .before in
-    let s = asked .before .before .before .before .before in
-    (s .pre .0, s .pre .1, s .pre .2, asked .before .asked-atoms .ensures, size-few _ _ (asked .size .ensures) (search needs))
+count-models-requires c κs = search (needs, size-few)
 
 returns-2 : tie.Need-returns-2
-returns-2 c =
-    let asked = c .before .before .before .before .before .before in
-    found-exact _ _ _ (asked .before .asked-atoms .ensures) (asked .before .before .before .before .before .pre .2) _ (asked .size .ensures) _ (search needs) (c .count-models .ensures)
+returns-2 c = search (needs, found-exact)
 
 pub count-spec : {M : Type 1} → statement M
 count-spec =

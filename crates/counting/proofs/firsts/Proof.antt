@@ -6,31 +6,22 @@ use Rattle.counting.proofs.firsts.Statement.{statement}
 use Rattle.counting.proofs.firsts.Tie as tie
 
 abbrev Inv-loop : tie.InvT-loop
-Inv-loop sets k at₀ seen₀ j₀ at seen j = Meeting sets seen j at
+Inv-loop records k at₀ seen₀ j₀ at seen j = Meeting records seen j at
 
 abbrev μ-loop : tie.MeasureT-loop
-μ-loop sets k at₀ seen₀ j₀ at seen j = k - j
+μ-loop records k at₀ seen₀ j₀ at seen j = k - j
 
 loop-holds : tie.Need-loop-holds Inv-loop μ-loop
 loop-holds c = search (needs, meeting-start)
 
-mul-difference : tie.Need-mul-difference Inv-loop μ-loop
-mul-difference c = search needs
-
-element-copy-out-difference : tie.Need-element-copy-out-difference Inv-loop μ-loop
-element-copy-out-difference c = search needs
+record-at-requires : tie.Need-record-at-requires Inv-loop μ-loop
+record-at-requires c κs = search needs
 
 difference-requires : tie.Need-difference-requires Inv-loop μ-loop
 difference-requires c κs = search needs
 
 enter-requires : tie.Need-enter-requires Inv-loop μ-loop
 enter-requires c κs = search needs
-
-mul-union : tie.Need-mul-union Inv-loop μ-loop
-mul-union c = search needs
-
-element-copy-out-union : tie.Need-element-copy-out-union Inv-loop μ-loop
-element-copy-out-union c = search needs
 
 union-requires : tie.Need-union-requires Inv-loop μ-loop
 union-requires c κs = search needs
@@ -54,12 +45,9 @@ firsts-spec =
     Inv-loop
     μ-loop
     loop-holds
-    mul-difference
-    element-copy-out-difference
+    record-at-requires
     difference-requires
     enter-requires
-    mul-union
-    element-copy-out-union
     union-requires
     add-j
     loop-less

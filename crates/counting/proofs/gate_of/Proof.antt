@@ -1,5 +1,6 @@
-use Rattle.counting.proofs.Asking.{gate-choice, gate-none}
+-- `counting::gate_of` meets its contract, one law for each way through it.
 use borrow.Author.Needs.{needs}
+use Rattle.counting.proofs.Gating.{gate-choice, gate-none}
 use Rattle.counting.proofs.gate_of.Statement.{statement}
 use Rattle.counting.proofs.gate_of.Tie as tie
 

@@ -1,27 +1,25 @@
-use borrow.Author.Needs.{needs}
+-- `counting::gates_of` meets its contract, one law for each way through it.
 use Prim.Native.Nat.{_-_}
+use borrow.Author.Needs.{needs}
+use Rattle.counting.proofs.Gating.{Gating, gating-start, gating-turn, gating-end}
 use Rattle.counting.proofs.Returning.{head-low}
-use Rattle.counting.proofs.Asking.{Gating, gating-start, gating-turn, gating-end}
 use Rattle.counting.proofs.gates_of.Statement.{statement}
 use Rattle.counting.proofs.gates_of.Tie as tie
 
 abbrev Inv-loop : tie.InvT-loop
-Inv-loop kinds heads k at₀ j₀ at j = Gating kinds heads k j at
+Inv-loop records k at₀ j₀ at j = Gating records k j at
 
 abbrev μ-loop : tie.MeasureT-loop
-μ-loop kinds heads k at₀ j₀ at j = k - j
+μ-loop records k at₀ j₀ at j = k - j
 
 loop-holds : tie.Need-loop-holds Inv-loop μ-loop
 loop-holds c = search (needs, gating-start)
 
-element-copy-out-wide : tie.Need-element-copy-out-wide Inv-loop μ-loop
-element-copy-out-wide c = search needs
+record-at-requires : tie.Need-record-at-requires Inv-loop μ-loop
+record-at-requires c κs = search needs
 
 wide-requires : tie.Need-wide-requires Inv-loop μ-loop
 wide-requires c κs = search needs
-
-element-copy-out-wide-2 : tie.Need-element-copy-out-wide-2 Inv-loop μ-loop
-element-copy-out-wide-2 c = search needs
 
 wide-requires-2 : tie.Need-wide-requires-2 Inv-loop μ-loop
 wide-requires-2 c κs = search needs
@@ -54,9 +52,8 @@ gates-of-spec =
     Inv-loop
     μ-loop
     loop-holds
-    element-copy-out-wide
+    record-at-requires
     wide-requires
-    element-copy-out-wide-2
     wide-requires-2
     gate-of-requires
     mul-at

@@ -6,10 +6,10 @@ use Rattle.counting.proofs.returns_of.Statement.{statement}
 use Rattle.counting.proofs.returns_of.Tie as tie
 
 abbrev Inv-loop : tie.InvT-loop
-Inv-loop heads pos k first at₀ j₀ at j = Filling heads pos at k j
+Inv-loop records k first at₀ j₀ at j = Filling records at k j
 
 abbrev μ-loop : tie.MeasureT-loop
-μ-loop heads pos k first at₀ j₀ at j = k - j
+μ-loop records k first at₀ j₀ at j = k - j
 
 firsts-requires : tie.Need-firsts-requires Inv-loop μ-loop
 firsts-requires c κs = search needs
@@ -17,15 +17,14 @@ firsts-requires c κs = search needs
 loop-holds : tie.Need-loop-holds Inv-loop μ-loop
 loop-holds c = search (needs, filling-start)
 
-element-copy-out-wide : tie.Need-element-copy-out-wide Inv-loop μ-loop
-element-copy-out-wide c = search needs
+record-at-requires : tie.Need-record-at-requires Inv-loop μ-loop
+record-at-requires c κs = search needs
 
 wide-requires : tie.Need-wide-requires Inv-loop μ-loop
 wide-requires c κs = search needs
 
 array-read-sooner : tie.Need-array-read-sooner Inv-loop μ-loop
-array-read-sooner c =
-    head-low _ _ _ _ (c .before .before .before .before .before .before .pre .1) (c .before .before .loop-test .taken) (c .wide .ensures)
+array-read-sooner c = search (needs, head-low)
 
 add-sooner : tie.Need-add-sooner Inv-loop μ-loop
 add-sooner c = search needs
@@ -59,7 +58,7 @@ returns-of-spec =
     μ-loop
     firsts-requires
     loop-holds
-    element-copy-out-wide
+    record-at-requires
     wide-requires
     array-read-sooner
     add-sooner

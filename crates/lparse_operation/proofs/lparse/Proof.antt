@@ -1,6 +1,6 @@
 -- `lparse_operation::lparse` meets its contract, one law for each way through it.
-use Rattle.lparse_operation.proofs.Texts.{lparse-refused, lparse-sizes, lparse-full, lparse-done}
 use borrow.Author.Needs.{needs}
+use Rattle.lparse_operation.proofs.Texts.{lparse-refused, lparse-atoms, lparse-count, lparse-full, lparse-done}
 use Rattle.lparse_operation.proofs.lparse.Statement.{statement}
 use Rattle.lparse_operation.proofs.lparse.Tie as tie
 
@@ -14,21 +14,19 @@ returns : tie.Need-returns
 returns c = search (needs, lparse-refused)
 
 lparse-length-requires : tie.Need-lparse-length-requires
-lparse-length-requires c κs = lparse-sizes _ _ _ _ _ _ _ _ _ _ (c .before .before .before .before .before .before .check-records .ensures) (search needs) (c .before .before .before .before .before .before .before .before .before .before .before .before .before .before .before .before .before .pre)
+lparse-length-requires c κs = (search (needs, lparse-atoms), search (needs, lparse-count))
 
 returns-2 : tie.Need-returns-2
-returns-2 c = lparse-full _ _ _ _ _ _ _ _ _ _ (c .before .before .before .before .before .before .before .before .check-records .ensures) (search needs) _ _ (c .before .lparse-length .ensures) (search needs)
+returns-2 c = search (needs, lparse-full)
 
 put-lparse-requires : tie.Need-put-lparse-requires
-put-lparse-requires c κs =
-    let sizes = lparse-sizes _ _ _ _ _ _ _ _ _ _ (c .before .before .before .before .before .before .before .before .before .before .before .before .before .check-records .ensures) (search needs) (c .before .before .before .before .before .before .before .before .before .before .before .before .before .before .before .before .before .before .before .before .before .before .before .before .pre) in
-    (sizes .0, sizes .1, search needs)
+put-lparse-requires c κs = (search (needs, lparse-atoms), search (needs, lparse-count), search needs)
 
 same-length : tie.Need-same-length
 same-length c = search needs
 
 returns-3 : tie.Need-returns-3
-returns-3 c = lparse-done _ _ _ _ _ _ _ _ _ _ (c .before .before .before .before .before .before .before .before .before .before .before .before .before .before .before .before .check-records .ensures) (search needs) _ _ (c .before .before .before .before .before .before .before .before .before .lparse-length .ensures) _ _ (search needs) (c .before .before .put-lparse .ensures)
+returns-3 c = search (needs, lparse-done)
 
 pub lparse-spec : {M : Type 1} → statement M
 lparse-spec =

@@ -1,36 +1,21 @@
 -- `lparse_output::put_records` meets its contract, one law for each way through it.
 use Prim.Native.Nat.{_-_}
 use borrow.Author.Needs.{needs}
-use Rattle.lparse_output.proofs.Lines.{RecordsLeft, records-start, records-room, records-turn, records-length, records-end}
+use Rattle.lparse_output.proofs.Parts.{RecordsLeft, records-start, records-room, records-turn, records-length, records-end}
 use Rattle.lparse_output.proofs.put_records.Statement.{statement}
 use Rattle.lparse_output.proofs.put_records.Tie as tie
 
 abbrev Inv-loop : tie.InvT-loop
-Inv-loop out₀ m kinds heads pos neg next₀ j₀ out next j = RecordsLeft kinds heads pos neg m out₀ out next j
+Inv-loop out₀ m records next₀ j₀ out next j = RecordsLeft records m out₀ out next j
 
 abbrev μ-loop : tie.MeasureT-loop
-μ-loop out₀ m kinds heads pos neg next₀ j₀ out next j = m - j
+μ-loop out₀ m records next₀ j₀ out next j = m - j
 
 loop-holds : tie.Need-loop-holds Inv-loop μ-loop
 loop-holds c = search (needs, records-start)
 
-element-copy-out-put-record : tie.Need-element-copy-out-put-record Inv-loop μ-loop
-element-copy-out-put-record c = search needs
-
-element-copy-out-put-record-2 : tie.Need-element-copy-out-put-record-2 Inv-loop μ-loop
-element-copy-out-put-record-2 c = search needs
-
-mul-put-record : tie.Need-mul-put-record Inv-loop μ-loop
-mul-put-record c = search needs
-
-element-copy-out-put-record-3 : tie.Need-element-copy-out-put-record-3 Inv-loop μ-loop
-element-copy-out-put-record-3 c = search needs
-
-mul-put-record-2 : tie.Need-mul-put-record-2 Inv-loop μ-loop
-mul-put-record-2 c = search needs
-
-element-copy-out-put-record-4 : tie.Need-element-copy-out-put-record-4 Inv-loop μ-loop
-element-copy-out-put-record-4 c = search needs
+record-at-requires : tie.Need-record-at-requires Inv-loop μ-loop
+record-at-requires c κs = search needs
 
 put-record-requires : tie.Need-put-record-requires Inv-loop μ-loop
 put-record-requires c κs = search (needs, records-room)
@@ -57,12 +42,7 @@ put-records-spec =
     Inv-loop
     μ-loop
     loop-holds
-    element-copy-out-put-record
-    element-copy-out-put-record-2
-    mul-put-record
-    element-copy-out-put-record-3
-    mul-put-record-2
-    element-copy-out-put-record-4
+    record-at-requires
     put-record-requires
     add-j
     loop-less

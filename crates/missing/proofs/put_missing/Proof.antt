@@ -12,8 +12,8 @@ list-set-requires c κs = search needs
 power-requires : tie.Need-power-requires
 power-requires c κs = search needs
 
-sub-t11 : tie.Need-sub-t11
-sub-t11 c = search needs
+sub-t12 : tie.Need-sub-t12
+sub-t12 c = search needs
 
 place-of-requires : tie.Need-place-of-requires
 place-of-requires c κs = search needs
@@ -36,7 +36,7 @@ put-missing-spec =
     (tie.spec
     list-set-requires
     power-requires
-    sub-t11
+    sub-t12
     place-of-requires
     put-chain-requires
     same-length

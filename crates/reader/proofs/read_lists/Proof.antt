@@ -1,115 +1,85 @@
-use Rattle.reader.proofs.Reading.{read-pos, read-neg, read-both}
+-- `reader::read_lists` meets its contract, one law for each way through it.
 use borrow.Author.Tests.{not-true, not-false}
 use borrow.Author.Needs.{needs}
+use Rattle.reader.proofs.Reading.{read-pos, read-neg, read-both}
 use Rattle.reader.proofs.read_lists.Statement.{statement}
 use Rattle.reader.proofs.read_lists.Tie as tie
-use Rattle.reader.proofs.read_lists.Reads as reads
-use Rattle.reader.proofs.read_lists.Lts as lts
-use Rattle.bits.proofs.byte_at.Reads as byte-at-reads
-use Rattle.reader.proofs.gather_list.Reads as gather-list-reads
-use Rattle.reader.proofs.no_entry.Reads as no-entry-reads
 
--- src/lib.rt:67:9
 byte-at-requires : tie.Need-byte-at-requires
 byte-at-requires c κs = search needs
 
--- src/lib.rt:68:27
 add-byte-at : tie.Need-add-byte-at
 add-byte-at c = search needs
 
--- src/lib.rt:68:9
 byte-at-requires-2 : tie.Need-byte-at-requires-2
 byte-at-requires-2 c κs = search needs
 
--- src/lib.rt:69:27
 add-byte-at-2 : tie.Need-add-byte-at-2
 add-byte-at-2 c = search needs
 
--- src/lib.rt:69:9
 byte-at-requires-3 : tie.Need-byte-at-requires-3
 byte-at-requires-3 c κs = search needs
 
--- src/lib.rt:70:24
 add-byte-at-3 : tie.Need-add-byte-at-3
 add-byte-at-3 c = search needs
 
--- src/lib.rt:70:9
 byte-at-requires-4 : tie.Need-byte-at-requires-4
 byte-at-requires-4 c κs = search needs
 
--- src/lib.rt:71:13
 add-a : tie.Need-add-a
 add-a c = search needs
 
--- src/lib.rt:72:13
 add-middle : tie.Need-add-middle
 add-middle c = search needs
 
--- src/lib.rt:73:13
 add-end : tie.Need-add-end
 add-end c = search needs
 
--- src/lib.rt:73:13
 add-end-2 : tie.Need-add-end-2
 add-end-2 c = search needs
 
--- src/lib.rt:74:27
 sub-gather-list : tie.Need-sub-gather-list
 sub-gather-list c = search needs
 
--- src/lib.rt:74:27
 part-gather-list-start : tie.Need-part-gather-list-start
 part-gather-list-start c = search needs
 
--- src/lib.rt:74:27
 part-gather-list-end : tie.Need-part-gather-list-end
 part-gather-list-end c = search needs
 
--- src/lib.rt:74:9
 gather-list-requires : tie.Need-gather-list-requires
 gather-list-requires c κs = search needs
 
--- src/lib.rt:76:9
 no-entry-requires : tie.Need-no-entry-requires
 no-entry-requires c κs = search needs
 
--- src/lib.rt:76:9
 returns : tie.Need-returns
 returns c = search (needs, not-true, read-pos)
 
--- src/lib.rt:78:27
 sub-gather-list-2 : tie.Need-sub-gather-list-2
 sub-gather-list-2 c = search needs
 
--- src/lib.rt:78:27
 part-gather-list-start-2 : tie.Need-part-gather-list-start-2
 part-gather-list-start-2 c = search needs
 
--- src/lib.rt:78:27
 part-gather-list-end-2 : tie.Need-part-gather-list-end-2
 part-gather-list-end-2 c = search needs
 
--- src/lib.rt:78:9
 gather-list-requires-2 : tie.Need-gather-list-requires-2
 gather-list-requires-2 c κs = search needs
 
--- src/lib.rt:80:9
 no-entry-requires-2 : tie.Need-no-entry-requires-2
 no-entry-requires-2 c κs = search needs
 
--- src/lib.rt:80:9
 returns-2 : tie.Need-returns-2
 returns-2 c = search (needs, not-true, not-false, read-neg)
 
--- src/lib.rt:85:15
-cast-t21 : tie.Need-cast-t21
-cast-t21 c = search needs
-
--- src/lib.rt:86:15
 cast-t22 : tie.Need-cast-t22
 cast-t22 c = search needs
 
--- src/lib.rt:63:1
+cast-t23 : tie.Need-cast-t23
+cast-t23 c = search needs
+
 returns-3 : tie.Need-returns-3
 returns-3 c = search (needs, not-false, read-both)
 
@@ -140,6 +110,6 @@ read-lists-spec =
     gather-list-requires-2
     no-entry-requires-2
     returns-2
-    cast-t21
     cast-t22
+    cast-t23
     returns-3)

@@ -3,10 +3,12 @@ use mathlib.Core.Bool.{true}
 use mathlib.Core.List.{List, map}
 use mathlib.Core.Path.{_≡_}
 use Prim.Native.Nat.{ℕ, _≤_, _<_}
-use lib.ListN.{length, getD}
+use lib.ListN.{length}
 use Rattle.lists.specs.Lists.{member, range}
 use Rattle.bits.specs.inner.Sets.{has, Gathered}
 use Rattle.bits.specs.inner.Visited.{listed}
+use Rattle.tables.specs.inner.Rows.{rowAt}
+use Rattle.tables.specs.declared.SheetRecord.{SheetRecord}
 use Rattle.sheet.specs.Questions.{ask}
 use Rattle.sheet.specs.Format.{end, listFits, listsFit, atomsByte, recordsByte}
 use Rattle.sheet.specs.inner.Walk.{recordRefusal, recordsRefusal, formRefusal}
@@ -16,22 +18,25 @@ use Rattle.reader.specs.declared.Gather.{Gather}
 use Rattle.reader.specs.declared.Entry.{Entry}
 use Rattle.reader.specs.declared.Header.{Header}
 
--- The record of a kind, a head and two sets.
-unfoldable pub recordOf : ℕ → ℕ → ℕ → ℕ → Record
-recordOf kind head pos neg = record { kind = kind; head = head; body = record { pos = listed pos; neg = listed neg } }
+-- The record of a row.
+unfoldable pub recordOf : SheetRecord → Record
+recordOf r = record { kind = r .kind; head = r .head; body = record { pos = listed (r .pos); neg = listed (r .neg) } }
 
--- The records at k entries, from the j-th on.
-unfoldable pub recordsAt : List ℕ → List ℕ → List ℕ → List ℕ → ℕ → ℕ → List Record
-recordsAt kinds heads pos neg j k = map (λ i. recordOf (getD kinds i 0) (getD heads i 0) (getD pos i 0) (getD neg i 0)) (range j k)
+-- The records of k rows, from the j-th on.
+unfoldable pub recordsAt : List ℕ → ℕ → ℕ → List Record
+recordsAt t j k = map (λ i. recordOf (rowAt t i)) (range j k)
 
 -- The set has what its list says, so no number from 64 on.
 abbrev pub Exact : ℕ → Type 0
 Exact x = (a : ℕ) → has x a ≡ member a (listed x)
 
--- The sets of the first m records are exact.
-pub record ExactSets (m : ℕ) (ps ns : List ℕ) : Type 0 where
-  pub pos : (j : ℕ) → j < m → Exact (getD ps j 0)
-  pub neg : (j : ℕ) → j < m → Exact (getD ns j 0)
+-- Both sets of a row are exact; those of the first m rows are.
+pub record ExactRow (r : SheetRecord) : Type 0 where
+  pub pos : Exact (r .pos)
+  pub neg : Exact (r .neg)
+
+abbrev pub ExactSets : ℕ → List ℕ → Type 0
+ExactSets m t = (j : ℕ) → j < m → ExactRow (rowAt t j)
 
 -- Question 6 of a list, and its set.
 pub record ListRead (n : ℕ) (l : List ℕ) (r : Gather) : Type 0 where
@@ -41,9 +46,8 @@ pub record ListRead (n : ℕ) (l : List ℕ) (r : Gather) : Type 0 where
 -- The record at `at` is read.
 pub record Taken (s : List ℕ) (at : ℕ) (r : Entry) : Type 0 where
   pub end : r .end ≡ end s at
-  pub is : recordOf (r .kind) (r .head) (r .pos) (r .neg) ≡ recordAt s at
-  pub pos : Exact (r .pos)
-  pub neg : Exact (r .neg)
+  pub is : recordOf (r .row) ≡ recordAt s at
+  pub exact : ExactRow (r .row)
 
 -- Question 6 of a record, and what is read.
 pub record ListsRead (n : ℕ) (s : List ℕ) (at : ℕ) (r : Entry) : Type 0 where
@@ -69,16 +73,9 @@ pub record HeaderRead (L : Limits) (s : List ℕ) (r : Header) : Type 0 where
   pub refused : (r .refusal ≡ 0 → ⊥) → r .refusal ≡ formRefusal L s
   pub passed : r .refusal ≡ 0 → HeaderPassed L s r
 
--- Arrays of 128.
-pub record RecordArrays (ks hs ps ns : List ℕ) : Type 0 where
-  pub kinds : length ks ≡ 128
-  pub heads : length hs ≡ 128
-  pub pos : length ps ≡ 128
-  pub neg : length ns ≡ 128
-
 -- Questions 4 to 6 of m records, and the records as they are stored.
-pub record RecordsRead (n m : ℕ) (s ks hs ps ns : List ℕ) (r : ℕ) : Type 0 where
+pub record RecordsRead (n m : ℕ) (s t : List ℕ) (r : ℕ) : Type 0 where
   pub says : r ≡ recordsRefusal m n s 5
-  pub stored : r ≡ 0 → recordsAt ks hs ps ns 0 m ≡ recordsFrom m s 5
-  pub exact : r ≡ 0 → ExactSets m ps ns
-  pub long : RecordArrays ks hs ps ns
+  pub stored : r ≡ 0 → recordsAt t 0 m ≡ recordsFrom m s 5
+  pub exact : r ≡ 0 → ExactSets m t
+  pub long : length t ≡ 384

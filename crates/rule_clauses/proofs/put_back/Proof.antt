@@ -20,7 +20,7 @@ put-plain-requires c κs =
     let second = added .before .before .before in
     let first = second .before .before .before in
     let start = first .before .before in
-    (back-fourth _ _ _ _ _ (start .pre .1) _ _ (start .pre .2) _ _ (first .put-flipped .ensures) _ _ (second .put-flipped2 .ensures) _ _ (added .put-added-flipped .ensures), search needs)
+    (back-fourth _ _ _ (start .pre .1) _ _ (start .pre .2) _ _ (first .put-flipped .ensures) _ _ (second .put-flipped2 .ensures) _ _ (added .put-added-flipped .ensures), search needs)
 
 same-length : tie.Need-same-length
 same-length c = search needs

@@ -19,7 +19,7 @@ put-back-requires c κs =
     let second = third .before .before .before in
     let first = second .before .before .before in
     let start = first .before .before in
-    (start .pre .0, start .pre .1, rule-fourth _ _ _ _ _ _ _ _ (start .pre .4) _ _ (first .put-two .ensures) _ _ (second .put-body-pairs .ensures) _ _ (third .put-plain .ensures))
+    (start .pre .0, start .pre .1, rule-fourth _ _ _ _ _ _ (start .pre .4) _ _ (first .put-two .ensures) _ _ (second .put-body-pairs .ensures) _ _ (third .put-plain .ensures))
 
 same-length : tie.Need-same-length
 same-length c = search needs

@@ -9,6 +9,7 @@ use Rattle.unfolding.specs.Unfolded.{last}
 use Rattle.unfolding.specs.Clauses.{Literal, positive, negative, negated, Clause, literals, ruleClauses, constraintClause, signed, clauseWords, signedWords}
 use Rattle.bits.specs.inner.Visited.{listed}
 use Rattle.program.specs.inner.Held.{addedAtom}
+use Rattle.program.specs.declared.TableRule.{TableRule}
 use Rattle.copies.specs.inner.Bodies.{bodyBy}
 
 -- The literal v or -v.
@@ -51,17 +52,17 @@ addedFlippedWords added = map signed (map negated (addedLiterals added))
 unfoldable pub bodyPairs : ℕ → Body → List Clause
 bodyPairs d b = map (λ l. negative d ∷ l ∷ []) (literals b)
 
--- Their words, of the body of two sets and an added atom.
-unfoldable pub bodyPairsWords : List ℕ → ℕ → ℕ → ℕ → ℕ → List ℤ
-bodyPairsWords vars d pos neg added = signedWords (bodyPairs d (bodyBy vars pos neg added))
+-- Their words, of a rule's body.
+unfoldable pub bodyPairsWords : List ℕ → ℕ → TableRule → List ℤ
+bodyPairsWords vars d r = signedWords (bodyPairs d (bodyBy vars r))
 
 -- The words of the clause of its negated literals.
-unfoldable pub backWords : List ℕ → ℕ → ℕ → ℕ → List ℤ
-backWords vars pos neg added = clauseWords (constraintClause (bodyBy vars pos neg added))
+unfoldable pub backWords : List ℕ → TableRule → List ℤ
+backWords vars r = clauseWords (constraintClause (bodyBy vars r))
 
--- The words of the clauses of the rule of two sets and an added atom, with the variable d, for h.
-unfoldable pub ruleWords : List ℕ → ℕ → ℕ → ℕ → ℕ → ℕ → List ℤ
-ruleWords vars h d pos neg added = signedWords (ruleClauses h d (bodyBy vars pos neg added))
+-- The words of the clauses of a rule, with the variable d, for h.
+unfoldable pub ruleWords : List ℕ → ℕ → ℕ → TableRule → List ℤ
+ruleWords vars h d r = signedWords (ruleClauses h d (bodyBy vars r))
 
 -- The variables are below 2^31.
 pub record SmallVariables (vars : List ℕ) : Type 0 where

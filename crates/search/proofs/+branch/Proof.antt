@@ -1,31 +1,31 @@
 -- `search::branch` meets its contract, one law for each way through it.
-use borrow.Author.Needs.{needs}
-use Rattle.search.proofs.Search.{found-none, found-last, found-sum, fewer-in, fewer-out, falls-below, stays-few, few}
-use native.Mathlib.Omega.{arith}
-use Rattle.search.specs.inner.Search.{undecided}
 use Prim.Native.Nat.{ℕ, _<_}
+use native.Mathlib.Omega.{arith}
+use borrow.Author.Needs.{needs}
 use borrow.Fn.Kinds.{In}
 use borrow.Fn.PlainCycle.{Measures, is, falls, and}
-use Rattle.search.proofs.branch.Reads as branch
-use Rattle.search.proofs.branch.Kinds as branch-kinds
-use Rattle.search.proofs.+branch.Lts-branch as branch-lts
 use Rattle.bits.proofs.difference.Reads as difference-reads
 use Rattle.bits.proofs.union.Reads as union-reads
 use Rattle.bits.proofs.with.Reads as with-reads
+use Rattle.search.proofs.Search.{found-none, found-last, found-sum, fewer-in, fewer-out, falls-below, stays-few, few}
+use Rattle.search.specs.inner.Search.{undecided}
+use Rattle.search.proofs.branch.Reads as branch
+use Rattle.search.proofs.branch.Kinds as branch-kinds
+use Rattle.search.proofs.+branch.Lts-branch as branch-lts
 use Rattle.search.proofs.last.Reads as last-reads
 use Rattle.search.proofs.next_atom.Reads as next-atom-reads
 use Rattle.search.proofs.propagate.Reads as propagate-reads
 use Rattle.search.proofs.+branch.{statement}
 use Rattle.search.proofs.+branch.Tie.{close}
 
-abbrev μ-branch : Measures 5 branch-kinds.ps ℕ
-μ-branch κs a = undecided (a .1 .1 .1 .1 .1 .1 .0)
+abbrev μ-branch : Measures 3 branch-kinds.ps ℕ
+μ-branch κs a = undecided (a .1 .1 .1 .1 .0)
 
-abbrev branch-at : ℕ → In 5 branch-kinds.ps
-branch-at t = and 5 branch-kinds.ps (is 5 branch-kinds.ps μ-branch t) branch.Pre
+abbrev branch-at : ℕ → In 3 branch-kinds.ps
+branch-at t = and 3 branch-kinds.ps (is 3 branch-kinds.ps μ-branch t) branch.Pre
 
-abbrev branch-below : ℕ → In 5 branch-kinds.ps
-branch-below t = and 5 branch-kinds.ps (falls 5 branch-kinds.ps _<_ μ-branch t) branch.Pre
+abbrev branch-below : ℕ → In 3 branch-kinds.ps
+branch-below t = and 3 branch-kinds.ps (falls 3 branch-kinds.ps _<_ μ-branch t) branch.Pre
 
 -- What is asked and learnt of each function that is called.
 abbrev called : ℕ → branch-lts.Claims

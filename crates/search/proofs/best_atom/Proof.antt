@@ -5,10 +5,10 @@ use Rattle.search.proofs.best_atom.Statement.{statement}
 use Rattle.search.proofs.best_atom.Tie as tie
 
 abbrev Inv-loop : tie.InvT-loop
-Inv-loop heads pos neg gate back sizes d undecided best₀ fewest₀ left₀ best fewest left = Seeking undecided left best
+Inv-loop records gate back sizes d undecided best₀ fewest₀ left₀ best fewest left = Seeking undecided left best
 
 abbrev μ-loop : tie.MeasureT-loop
-μ-loop heads pos neg gate back sizes d undecided best₀ fewest₀ left₀ best fewest left = left
+μ-loop records gate back sizes d undecided best₀ fewest₀ left₀ best fewest left = left
 
 lowest-requires : tie.Need-lowest-requires Inv-loop μ-loop
 lowest-requires c κs = search needs

@@ -6,10 +6,10 @@ use Rattle.search.proofs.lawful.Statement.{statement}
 use Rattle.search.proofs.lawful.Tie as tie
 
 abbrev Inv-loop : tie.InvT-loop
-Inv-loop pos neg x j₀ end j = Obeying pos neg x j₀ j
+Inv-loop records x j₀ end j = Obeying records x j₀ j
 
 abbrev μ-loop : tie.MeasureT-loop
-μ-loop pos neg x j₀ end j = end - j
+μ-loop records x j₀ end j = end - j
 
 add-end : tie.Need-add-end Inv-loop μ-loop
 add-end c = search needs
@@ -17,17 +17,8 @@ add-end c = search needs
 loop-holds : tie.Need-loop-holds Inv-loop μ-loop
 loop-holds c = search (needs, obeying-start)
 
-mul-body-holds : tie.Need-mul-body-holds Inv-loop μ-loop
-mul-body-holds c = search needs
-
-element-copy-out-body-holds : tie.Need-element-copy-out-body-holds Inv-loop μ-loop
-element-copy-out-body-holds c = search needs
-
-mul-body-holds-2 : tie.Need-mul-body-holds-2 Inv-loop μ-loop
-mul-body-holds-2 c = search needs
-
-element-copy-out-body-holds-2 : tie.Need-element-copy-out-body-holds-2 Inv-loop μ-loop
-element-copy-out-body-holds-2 c = search needs
+record-at-requires : tie.Need-record-at-requires Inv-loop μ-loop
+record-at-requires c κs = search needs
 
 body-holds-requires : tie.Need-body-holds-requires Inv-loop μ-loop
 body-holds-requires c κs = search needs
@@ -55,10 +46,7 @@ lawful-spec =
     μ-loop
     add-end
     loop-holds
-    mul-body-holds
-    element-copy-out-body-holds
-    mul-body-holds-2
-    element-copy-out-body-holds-2
+    record-at-requires
     body-holds-requires
     returns
     add-j

@@ -8,10 +8,10 @@ use Rattle.search.proofs.least.Statement.{statement}
 use Rattle.search.proofs.least.Tie as tie
 
 abbrev Inv-loop : tie.InvT-loop
-Inv-loop heads pos neg gate back sizes bound start x₀ j₀ x j = Passing (inArrays heads pos neg gate sizes) bound start j x
+Inv-loop records gate back sizes bound start x₀ j₀ x j = Passing (inArrays records gate sizes) bound start j x
 
 abbrev μ-loop : tie.MeasureT-loop
-μ-loop heads pos neg gate back sizes bound start x₀ j₀ x j = 129 * (2 ^ 64 - x) + (sizes .rules - j)
+μ-loop records gate back sizes bound start x₀ j₀ x j = 129 * (2 ^ 64 - x) + (sizes .rules - j)
 
 loop-holds : tie.Need-loop-holds Inv-loop μ-loop
 loop-holds c = search (needs, passing-start)

@@ -8,10 +8,10 @@ use Rattle.search.proofs.propagate.Statement.{statement}
 use Rattle.search.proofs.propagate.Tie as tie
 
 abbrev Inv-loop : tie.InvT-loop
-Inv-loop heads pos neg gate back sizes d grown seen₀ p₀ seen p = Propagating (inArrays heads pos neg gate sizes) d seen p
+Inv-loop records gate back sizes d grown seen₀ p₀ seen p = Propagating (inArrays records gate sizes) d seen p
 
 abbrev μ-loop : tie.MeasureT-loop
-μ-loop heads pos neg gate back sizes d grown seen₀ p₀ seen p = 18446744073709551616 - seen
+μ-loop records gate back sizes d grown seen₀ p₀ seen p = 18446744073709551616 - seen
 
 propagate-once-requires : tie.Need-propagate-once-requires Inv-loop μ-loop
 propagate-once-requires c κs = search needs

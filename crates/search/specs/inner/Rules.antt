@@ -1,4 +1,4 @@
--- The rules and constraints of a count as masks, in any order, and what the steps of a least model promise.
+-- The rules and constraints of a count in a table of masks, in any order, and what the steps of a least model promise.
 use mathlib.Core.Bool.{Bool, true, false, not, _&&_, cond}
 use mathlib.Core.List.{List, List·Memᴰ}
 use mathlib.Core.Logic.{_⊎_}
@@ -11,22 +11,20 @@ use Rattle.asp.specs.Program.{Body, State, holds}
 use Rattle.asp.specs.LeastModel.{consequences, Inside}
 use Rattle.asp.specs.Least.{Closed}
 use Rattle.bits.specs.inner.Sets.{has}
-use Rattle.bits.specs.inner.Listed.{Low}
+use Rattle.tables.specs.inner.Rows.{rowAt}
 use Rattle.search.specs.inner.Decided.{CountRule, definites, surely, possibly}
 use Rattle.search.specs.declared.Sizes.{Sizes}
 use Rattle.search.specs.declared.Bound.{Bound}
 
--- Rules, and behind them constraints: heads, positive and negative atoms, and the head again where a rule is free.
+-- Rules, and behind them constraints, as a table's records, and for each rule its head again where it is free.
 pub record Masks : Type 0 where
-  pub heads : List ℕ
-  pub pos : List ℕ
-  pub neg : List ℕ
+  pub records : List ℕ
   pub gate : List ℕ
   pub sizes : Sizes
 
--- The masks in four arrays.
-abbrev pub inArrays : List ℕ → List ℕ → List ℕ → List ℕ → Sizes → Masks
-inArrays heads pos neg gate sizes = record { heads = heads; pos = pos; neg = neg; gate = gate; sizes = sizes }
+-- The masks in two arrays.
+abbrev pub inArrays : List ℕ → List ℕ → Sizes → Masks
+inArrays records gate sizes = record { records = records; gate = gate; sizes = sizes }
 
 -- The masks hold the body: its positive and its negative atoms.
 pub record BodyMatches (b : Body) (pos neg : ℕ) : Type 0 where
@@ -40,11 +38,11 @@ pub record Matches (r : CountRule) (head pos neg gate : ℕ) : Type 0 where
   pub gates : (b : ℕ) → has gate b ≡ (r .free && eqb b (r .rule .head))
 
 -- The body at an index, and the rule.
-abbrev pub BodyAt : List ℕ → List ℕ → Body → ℕ → Type 0
-BodyAt pos neg b j = BodyMatches b (getD pos j 0) (getD neg j 0)
+abbrev pub BodyAt : List ℕ → Body → ℕ → Type 0
+BodyAt t b j = BodyMatches b (rowAt t j .pos) (rowAt t j .neg)
 
 abbrev pub RuleAt : Masks → CountRule → ℕ → Type 0
-RuleAt M r j = Matches r (getD (M .heads) j 0) (getD (M .pos) j 0) (getD (M .neg) j 0) (getD (M .gate) j 0)
+RuleAt M r j = Matches r (rowAt (M .records) j .head) (rowAt (M .records) j .pos) (rowAt (M .records) j .neg) (getD (M .gate) j 0)
 
 -- The k indices from the j-th on hold the members of the list, each at least once and nothing else.
 pub record Held {A : Type 0} (At : A → ℕ → Type 0) (l : List A) (j k : ℕ) : Type 0 where
@@ -55,8 +53,8 @@ pub record Held {A : Type 0} (At : A → ℕ → Type 0) (l : List A) (j k : ℕ
 abbrev pub HeldRules : List CountRule → Masks → Type 0
 HeldRules rs M = Held (RuleAt M) rs 0 (M .sizes .rules)
 
-abbrev pub HeldBodies : List Body → List ℕ → List ℕ → Sizes → Type 0
-HeldBodies cs pos neg s = Held (BodyAt pos neg) cs (s .rules) (s .constraints)
+abbrev pub HeldBodies : List Body → List ℕ → Sizes → Type 0
+HeldBodies cs t s = Held (BodyAt t) cs (s .rules) (s .constraints)
 
 -- The rule surely applies, or it possibly does.
 abbrev pub passes : Bound → CountRule → Bool
@@ -78,21 +76,25 @@ abbrev pub operator : Bound → List CountRule → State → State
 operator B rs = consequences (definites (passes B) rs)
 
 -- The rule at index j.
-pub record FiredAt (heads pos neg gate : List ℕ) (j : ℕ) (B : Bound) (l r : ℕ) : Type 0 where
+pub record FiredAt (t gate : List ℕ) (j : ℕ) (B : Bound) (l r : ℕ) : Type 0 where
   pub flag : Bool
-  pub asked : Applies B (getD neg j 0) (getD gate j 0) flag
-  pub fired : Fired l (getD heads j 0) (getD pos j 0) flag r
+  pub asked : Applies B (rowAt t j .neg) (getD gate j 0) flag
+  pub fired : Fired l (rowAt t j .head) (rowAt t j .pos) flag r
 
 -- Where the rule at j adds its head, a pass may go on at back[j]: no rule before has that head among its positive atoms.
-pub record Returning (heads pos back : List ℕ) (k : ℕ) : Type 0 where
+pub record Returning (t back : List ℕ) (k : ℕ) : Type 0 where
   pub near : (j : ℕ) → j < k → getD back j 0 ≤ j + 1
-  pub lacks : (j : ℕ) → j < k → (j′ : ℕ) → j′ < getD back j 0 → has (getD pos j′ 0) (getD heads j 0) ≡ false
+  pub lacks : (j : ℕ) → j < k → (j′ : ℕ) → j′ < getD back j 0 → has (rowAt t j′ .pos) (rowAt t j .head) ≡ false
+
+-- The heads of the first k records are below 64.
+pub record LowHeads (t : List ℕ) (k : ℕ) : Type 0 where
+  pub low : (j : ℕ) → j < k → rowAt t j .head < 64
 
 -- The arrays have room for the entries, heads are atoms, and a pass knows where to go on.
-pub record Ready (heads pos back : List ℕ) (s : Sizes) : Type 0 where
+pub record Ready (t back : List ℕ) (s : Sizes) : Type 0 where
   pub few : s .rules + s .constraints ≤ 128
-  pub low : Low heads (s .rules)
-  pub returns : Returning heads pos back (s .rules)
+  pub low : LowHeads t (s .rules)
+  pub returns : Returning t back (s .rules)
 
 -- The index to go on at, behind j if nothing was added.
 pub record Onward (x y back j r : ℕ) : Type 0 where
@@ -109,5 +111,5 @@ pub record BodyHolds (x pos neg : ℕ) (r : Bool) : Type 0 where
   pub is : (b : Body) → BodyMatches b pos neg → r ≡ holds (has x) b
 
 -- Whether the set breaks none of the constraints.
-pub record Lawful (pos neg : List ℕ) (s : Sizes) (x : ℕ) (r : Bool) : Type 0 where
-  pub is : (cs : List Body) → HeldBodies cs pos neg s → r ≡ all (λ b. not (holds (has x) b)) cs
+pub record Lawful (t : List ℕ) (s : Sizes) (x : ℕ) (r : Bool) : Type 0 where
+  pub is : (cs : List Body) → HeldBodies cs t s → r ≡ all (λ b. not (holds (has x) b)) cs

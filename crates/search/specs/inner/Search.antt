@@ -46,7 +46,7 @@ agreeing n rs cs d = countBy n rs cs (has (d .ins)) (has (d .outs))
 -- The masks hold the rules and constraints of n atoms; every atom that a rule asks for is to be decided.
 pub record Task (n : ℕ) (rs : List CountRule) (cs : List Body) (M : Masks) (d : Decisions) : Type 0 where
   pub rules : HeldRules rs M
-  pub bodies : HeldBodies cs (M .pos) (M .neg) (M .sizes)
+  pub bodies : HeldBodies cs (M .records) (M .sizes)
   pub heads-low : (r : CountRule) → List·Memᴰ r rs → r .rule .head < n
   pub negs-low : (r : CountRule) → List·Memᴰ r rs → (a : ℕ) → List·Memᴰ a (r .rule .body .neg) → a < n
   pub known : (r : CountRule) → List·Memᴰ r rs → (a : ℕ) → asks r a → has (d .atoms) a ≡ true
@@ -55,11 +55,11 @@ pub record Task (n : ℕ) (rs : List CountRule) (cs : List Body) (M : Masks) (d 
   pub apart : (a : ℕ) → has (d .ins) a ≡ true → has (d .outs) a ≡ false
 
 -- One candidate: whether it has the atoms decided in, and whether it breaks no constraint.
-pub record Leaf (pos neg : List ℕ) (s : Sizes) (ins l r : ℕ) : Type 0 where
+pub record Leaf (t : List ℕ) (s : Sizes) (ins l r : ℕ) : Type 0 where
   pub holds-in : Bool
   pub asked : Subset ins l holds-in
   pub obeys : Bool
-  pub tested : holds-in ≡ true → Lawful pos neg s l obeys
+  pub tested : holds-in ≡ true → Lawful t s l obeys
   pub is : r ≡ cond holds-in (cond obeys 1 0) 0
 
 -- With everything decided the stable model that agrees is counted, if there is one.

@@ -1,6 +1,6 @@
 -- `sheet_check::check_bytes` meets its contract, one law for each way through it.
-use Rattle.sheet_check.proofs.Bytes.{bytes-header, bytes-long, bytes-atoms, bytes-count, bytes-records, bytes-sum, bytes-crowded, bytes-fine}
 use borrow.Author.Needs.{needs}
+use Rattle.sheet_check.proofs.Bytes.{bytes-header, bytes-long, bytes-atoms, bytes-count, bytes-records, bytes-sum, bytes-crowded, bytes-fine}
 use Rattle.sheet_check.proofs.check_bytes.Statement.{statement}
 use Rattle.sheet_check.proofs.check_bytes.Tie as tie
 

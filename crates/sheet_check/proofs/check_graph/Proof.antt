@@ -1,6 +1,6 @@
 -- `sheet_check::check_graph` meets its contract, one law for each way through it.
-use Rattle.sheet_check.proofs.Graphs.{graph-checked}
 use borrow.Author.Needs.{needs}
+use Rattle.sheet_check.proofs.Graphs.{graph-checked}
 use Rattle.sheet_check.proofs.check_graph.Statement.{statement}
 use Rattle.sheet_check.proofs.check_graph.Tie as tie
 

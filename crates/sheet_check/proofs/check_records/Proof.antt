@@ -1,6 +1,6 @@
 -- `sheet_check::check_records` meets its contract, one law for each way through it.
-use Rattle.sheet_check.proofs.Sheets.{checked-bytes, checked-expands, checked-graph, checked-fine}
 use borrow.Author.Needs.{needs}
+use Rattle.sheet_check.proofs.Sheets.{checked-bytes, checked-expands, checked-graph, checked-fine}
 use Rattle.sheet_check.proofs.check_records.Statement.{statement}
 use Rattle.sheet_check.proofs.check_records.Tie as tie
 
@@ -20,17 +20,13 @@ same-length : tie.Need-same-length
 same-length c = search needs
 
 returns-2 : tie.Need-returns-2
-returns-2 c =
-    let bytes = c .before .before .before .before .before .before .before .before .before .before .before .before .before .before .before in
-    checked-graph _ _ (bytes .before .before .before .before .before .before .before .pre .0) _ _ _ _ _ (bytes .check-bytes .ensures) (c .before .before .before .before .before .before .before .before .before .before .before .before .before .if1 .left) _ _ _ _ (c .before .before .before .before .check-graph .ensures) _ (search needs) (c .refused .ensures)
+returns-2 c = search (needs, checked-graph)
 
 same-length-2 : tie.Need-same-length-2
 same-length-2 c = search needs
 
 returns-3 : tie.Need-returns-3
-returns-3 c =
-    let bytes = c .before .before .before .before .before .before .before .before .before .before .before .before .before .before in
-    checked-fine _ _ (bytes .before .before .before .before .before .before .before .pre .0) _ _ _ _ _ (bytes .check-bytes .ensures) (c .before .before .before .before .before .before .before .before .before .before .before .before .if1 .left) _ _ _ _ (c .before .before .before .check-graph .ensures) (search needs)
+returns-3 c = search (needs, checked-fine)
 
 pub check-records-spec : {M : Type 1} → statement M
 check-records-spec =

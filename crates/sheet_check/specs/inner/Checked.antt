@@ -10,7 +10,7 @@ use Rattle.sheet.specs.Format.{atomsByte, recordsByte}
 use Rattle.sheet.specs.inner.Walk.{formRefusal}
 use Rattle.sheet.specs.Sheet.{Record, records, choices, programOf, program}
 use Rattle.sheet.specs.declared.Limits.{Limits}
-use Rattle.reader.specs.inner.Tabled.{recordsAt, ExactSets, RecordArrays}
+use Rattle.reader.specs.inner.Tabled.{recordsAt, ExactSets}
 use Rattle.translation.specs.inner.Records.{Records, recordsIn, Expandable}
 use Rattle.components.specs.Limit.{componentsFit}
 use Rattle.components.specs.inner.Reachability.{EdgesOf, ComponentsOf}
@@ -25,19 +25,19 @@ pub record BytesAccepted (L : Limits) (s : List ℕ) (r : SheetNumbers) : Type 0
   pub atoms : r .atoms ≡ program s .atoms
   pub low : r .atoms ≤ 64
 
--- The arrays hold the records of the sheet.
-pub record RecordsKept (s ks hs ps ns : List ℕ) (r : SheetNumbers) : Type 0 where
-  pub list : recordsAt ks hs ps ns 0 (r .records) ≡ records s
-  pub exact : ExactSets (r .records) ps ns
-  pub long : RecordArrays ks hs ps ns
+-- The table holds the records of the sheet.
+pub record RecordsKept (s t : List ℕ) (r : SheetNumbers) : Type 0 where
+  pub list : recordsAt t 0 (r .records) ≡ records s
+  pub exact : ExactSets (r .records) t
+  pub long : length t ≡ 384
 
 -- The questions about the bytes and the records of a sheet, and its records where there is no refusal.
-pub record BytesChecked (L : Limits) (s ks hs ps ns : List ℕ) (r : SheetNumbers) : Type 0 where
+pub record BytesChecked (L : Limits) (s t : List ℕ) (r : SheetNumbers) : Type 0 where
   pub says : r .refusal ≡ bytesRefusal L s
   pub accepted : r .refusal ≡ 0 → BytesAccepted L s r
-  pub kept : r .refusal ≡ 0 → RecordsKept s ks hs ps ns r
+  pub kept : r .refusal ≡ 0 → RecordsKept s t r
 
--- Records in four arrays that can be made a program, of so many atoms.
+-- Records in a table that can be made a program, of so many atoms.
 pub record Expands (t : Records) (r : SheetNumbers) : Type 0 where
   pub expandable : Expandable (r .written) t
   pub atoms : r .atoms ≡ r .written + choices (recordsIn t)
@@ -72,6 +72,6 @@ pub record SheetChecked (L : Limits) (s edges names sets : List ℕ) (r : SheetN
   pub edged : r .refusal ≡ 0 → EdgesOf (program s) edges
 
 -- The questions about a sheet, and its records where there is no refusal.
-pub record RecordsChecked (L : Limits) (s ks hs ps ns edges names sets : List ℕ) (r : SheetNumbers) : Type 0 where
+pub record RecordsChecked (L : Limits) (s t edges names sets : List ℕ) (r : SheetNumbers) : Type 0 where
   pub asked : SheetChecked L s edges names sets r
-  pub kept : r .refusal ≡ 0 → RecordsKept s ks hs ps ns r
+  pub kept : r .refusal ≡ 0 → RecordsKept s t r

@@ -1,20 +1,21 @@
-use borrow.Author.Needs.{needs}
+-- `translation::choices_in` meets its contract, one law for each way through it.
 use Prim.Native.Nat.{_-_}
+use borrow.Author.Needs.{needs}
 use Rattle.translation.proofs.Records.{Choosing, choosing-start, choosing-turn, choosing-small, choosing-end}
 use Rattle.translation.proofs.choices_in.Statement.{statement}
 use Rattle.translation.proofs.choices_in.Tie as tie
 
 abbrev Inv-loop : tie.InvT-loop
-Inv-loop kinds m number₀ j₀ number j = Choosing kinds m j number
+Inv-loop table m number₀ j₀ number j = Choosing table m j number
 
 abbrev μ-loop : tie.MeasureT-loop
-μ-loop kinds m number₀ j₀ number j = m - j
+μ-loop table m number₀ j₀ number j = m - j
 
 loop-holds : tie.Need-loop-holds Inv-loop μ-loop
 loop-holds c = search (needs, choosing-start)
 
-element-copy-out-wide : tie.Need-element-copy-out-wide Inv-loop μ-loop
-element-copy-out-wide c = search needs
+record-at-requires : tie.Need-record-at-requires Inv-loop μ-loop
+record-at-requires c κs = search needs
 
 wide-requires : tie.Need-wide-requires Inv-loop μ-loop
 wide-requires c κs = search needs
@@ -41,7 +42,7 @@ choices-in-spec =
     Inv-loop
     μ-loop
     loop-holds
-    element-copy-out-wide
+    record-at-requires
     wide-requires
     next-fresh-requires
     add-j

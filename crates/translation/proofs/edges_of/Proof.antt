@@ -1,15 +1,16 @@
-use borrow.Author.Needs.{needs}
+-- `translation::edges_of` meets its contract, one law for each way through it.
 use Prim.Native.Nat.{_-_}
-use Rattle.translation.specs.inner.Records.{table}
+use borrow.Author.Needs.{needs}
+use Rattle.translation.specs.inner.Records.{held}
 use Rattle.translation.proofs.Linking.{Linking, linking-start, linking-fresh, linking-turn, linking-end}
 use Rattle.translation.proofs.edges_of.Statement.{statement}
 use Rattle.translation.proofs.edges_of.Tie as tie
 
 abbrev Inv-loop : tie.InvT-loop
-Inv-loop n m kinds heads pos neg rows₀ fresh₀ j₀ rows fresh j = Linking n (table m kinds heads pos neg) j rows fresh
+Inv-loop n m table rows₀ fresh₀ j₀ rows fresh j = Linking n (held m table) j rows fresh
 
 abbrev μ-loop : tie.MeasureT-loop
-μ-loop n m kinds heads pos neg rows₀ fresh₀ j₀ rows fresh j = m - j
+μ-loop n m table rows₀ fresh₀ j₀ rows fresh j = m - j
 
 loop-holds : tie.Need-loop-holds Inv-loop μ-loop
 loop-holds c = search (needs, linking-start)

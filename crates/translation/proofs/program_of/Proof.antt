@@ -1,28 +1,29 @@
-use borrow.Author.Needs.{needs}
-use Rattle.translation.proofs.Appending.{Ruling, ruling-start, ruling-room, ruling-fresh, ruling-small, ruling-turn, Constraining, constraining-start, constraining-room, constraining-turn, constraints-behind, all-atoms, translated}
-use Rattle.translation.specs.inner.Records.{table, recordsIn}
-use Rattle.translation.specs.inner.Translated.{entries}
-use Rattle.sheet.specs.Sheet.{choices}
+-- `translation::program_of` meets its contract, one law for each way through it.
 use mathlib.Core.Path.{_≡_}
 use Prim.Native.Nat.{_+_, _-_}
+use borrow.Author.Needs.{needs}
+use Rattle.sheet.specs.Sheet.{choices}
+use Rattle.translation.proofs.Appending.{Ruling, ruling-start, ruling-room, ruling-fresh, ruling-small, ruling-turn, Constraining, constraining-start, constraining-room, constraining-turn, constraints-behind, all-atoms, translated}
+use Rattle.translation.specs.inner.Records.{held, recordsIn}
+use Rattle.translation.specs.inner.Translated.{entries}
 use Rattle.translation.proofs.program_of.Statement.{statement}
 use Rattle.translation.proofs.program_of.Tie as tie
 
 abbrev Inv-loop : tie.InvT-loop
-Inv-loop n m kinds record-heads record-pos neg heads₀ pos₀ sources₀ added₀ fresh₀ rules₀ j₀ heads pos sources added fresh rules j =
-    Ruling n (table m kinds record-heads record-pos neg) j fresh (entries rules heads pos sources added)
+Inv-loop n m table program₀ fresh₀ rules₀ j₀ program fresh rules j =
+    Ruling n (held m table) j fresh (entries rules program)
 
 abbrev μ-loop : tie.MeasureT-loop
-μ-loop n m kinds record-heads record-pos neg heads₀ pos₀ sources₀ added₀ fresh₀ rules₀ j₀ heads pos sources added fresh rules j =
+μ-loop n m table program₀ fresh₀ rules₀ j₀ program fresh rules j =
     m - j
 
 abbrev Inv-loop2 : tie.InvT-loop2
-Inv-loop2 n m kinds record-heads record-pos neg heads₀ pos₀ sources₀ added₀ fresh rules j all₀ i₀ heads pos sources added all i =
-    Constraining n (table m kinds record-heads record-pos neg) rules i (entries all heads pos sources added)
-    × (fresh ≡ n + choices (recordsIn (table m kinds record-heads record-pos neg)))
+Inv-loop2 n m table program₀ fresh rules j all₀ i₀ program all i =
+    Constraining n (held m table) rules i (entries all program)
+    × (fresh ≡ n + choices (recordsIn (held m table)))
 
 abbrev μ-loop2 : tie.MeasureT-loop2
-μ-loop2 n m kinds record-heads record-pos neg heads₀ pos₀ sources₀ added₀ fresh rules j all₀ i₀ heads pos sources added all i =
+μ-loop2 n m table program₀ fresh rules j all₀ i₀ program all i =
     m - i
 
 loop-holds : tie.Need-loop-holds Inv-loop μ-loop Inv-loop2 μ-loop2
@@ -50,10 +51,10 @@ loop-less : tie.Need-loop-less Inv-loop μ-loop Inv-loop2 μ-loop2
 loop-less c = search needs
 
 loop-again : tie.Need-loop-again Inv-loop μ-loop Inv-loop2 μ-loop2
-loop-again c = ruling-turn _ _ (c .before .before .before .before .before .before .before .before .before .before .pre .0) _ _ _ (c .before .before .before .before .before .before .before .before .before .loop .inv) (search needs) _ (c .before .before .before .before .before .before .before .record-at .ensures) _ _ (c .before .wide .ensures) (c .next-fresh .ensures) _ (c .before .before .store-rules .ensures)
+loop-again c = search (needs, ruling-turn)
 
 loop2-holds : tie.Need-loop2-holds Inv-loop μ-loop Inv-loop2 μ-loop2
-loop2-holds c = (constraining-start _ _ (c .before .before .pre .0) _ _ _ (c .before .loop .inv) (search needs), all-atoms _ _ (c .before .before .pre .0) _ _ _ (c .before .loop .inv) (search needs))
+loop2-holds c = (constraining-start _ _ (c .before .before .pre .0) _ _ _ (c .before .loop .inv) (search needs), search (needs, all-atoms))
 
 record-at-requires-2 : tie.Need-record-at-requires-2 Inv-loop μ-loop Inv-loop2 μ-loop2
 record-at-requires-2 c κs = search needs
@@ -71,13 +72,13 @@ loop2-less : tie.Need-loop2-less Inv-loop μ-loop Inv-loop2 μ-loop2
 loop2-less c = search needs
 
 loop2-again : tie.Need-loop2-again Inv-loop μ-loop Inv-loop2 μ-loop2
-loop2-again c = (constraining-turn _ _ (c .before .before .before .before .before .before .before .before .before .before .pre .0) _ _ _ (c .before .before .before .before .before .before .before .loop2 .inv .0) (search needs) _ (c .before .before .before .before .before .record-at2 .ensures) _ (c .store-constraint .ensures), c .before .before .before .before .before .before .before .loop2 .inv .1)
+loop2-again c = (search (needs, constraining-turn), search needs)
 
-sub-t31 : tie.Need-sub-t31 Inv-loop μ-loop Inv-loop2 μ-loop2
-sub-t31 c = constraints-behind _ _ (c .before .before .before .before .pre .0) _ _ _ (c .before .loop2 .inv .0) (search needs)
+sub-t19 : tie.Need-sub-t19 Inv-loop μ-loop Inv-loop2 μ-loop2
+sub-t19 c = constraints-behind _ _ (c .before .before .before .before .pre .0) _ _ _ (c .before .loop2 .inv .0) (search needs)
 
 returns : tie.Need-returns Inv-loop μ-loop Inv-loop2 μ-loop2
-returns c = (translated _ _ (c .before .before .before .before .pre .0) _ _ _ (c .before .loop2 .inv .0) (search needs) _ (c .before .loop2 .inv .1), c .before .loop2 .inv .0 .long .sources)
+returns c = translated _ _ (c .before .before .before .before .pre .0) _ _ _ (c .before .loop2 .inv .0) (search needs) _ (c .before .loop2 .inv .1)
 
 pub program-of-spec : {M : Type 1} → statement M
 program-of-spec =
@@ -103,5 +104,5 @@ program-of-spec =
     add-i
     loop2-less
     loop2-again
-    sub-t31
+    sub-t19
     returns)

@@ -1,6 +1,7 @@
+-- `translation::store_rules` meets its contract, one law for each way through it.
+use borrow.Author.Needs.{needs}
 use Rattle.translation.proofs.Linking.{choice-low, fresh-low}
 use Rattle.translation.proofs.Appending.{rule-room, rule-stored, choice-room, choice-second, choice-stored, none-stored}
-use borrow.Author.Needs.{needs}
 use Rattle.translation.proofs.store_rules.Statement.{statement}
 use Rattle.translation.proofs.store_rules.Tie as tie
 
@@ -22,25 +23,17 @@ added-atom-requires c κs = search (needs, fresh-low)
 store-requires-2 : tie.Need-store-requires-2
 store-requires-2 c κs = search (needs, choice-room)
 
-cast-t20 : tie.Need-cast-t20
-cast-t20 c = search needs
+cast-t14 : tie.Need-cast-t14
+cast-t14 c = search needs
 
 added-atom-requires-2 : tie.Need-added-atom-requires-2
 added-atom-requires-2 c κs = search (needs, choice-low)
 
 store-requires-3 : tie.Need-store-requires-3
-store-requires-3 c κs =
-    let second = c .before .before .before .before .before in
-    let choice = second .before .before .before .before .before .before .before in
-    (choice-second _ _ _ _ (choice .before .before .wide .ensures) _ (choice .before .before .before .pre .0) (search needs) _ _ (second .store2 .ensures), choice .before .before .before .pre .2)
+store-requires-3 c κs = search (needs, choice-second)
 
 returns-2 : tie.Need-returns-2
-returns-2 c =
-    let other = c .before .before .before .before .before in
-    let second = other .before in
-    let first = second .before .before .before .before .before in
-    let start = first .before .before .before .before .before in
-    choice-stored _ _ _ _ (first .before .before .before .before .wide .ensures) _ (start .pre .0) (search needs) _ _ _ (first .added-atom .ensures) (first .before .wide2 .ensures) (other .added-atom2 .ensures) (search (needs, fresh-low)) _ _ (second .store2 .ensures) (c .store3 .ensures)
+returns-2 c = search (needs, choice-stored, fresh-low)
 
 returns-3 : tie.Need-returns-3
 returns-3 c = search (needs, none-stored)
@@ -55,7 +48,7 @@ store-rules-spec =
     wide-requires-2
     added-atom-requires
     store-requires-2
-    cast-t20
+    cast-t14
     added-atom-requires-2
     store-requires-3
     returns-2

@@ -9,10 +9,11 @@ use Rattle.lists.specs.Lists.{any, member}
 use Rattle.asp.specs.Program.{Rule}
 use Rattle.bits.specs.inner.Sets.{has}
 use Rattle.bits.specs.inner.Visited.{listed}
+use Rattle.tables.specs.declared.SheetRecord.{SheetRecord}
 use Rattle.sheet.specs.Sheet.{recordRules, nextFresh, programOf}
 use Rattle.components.specs.inner.Reachability.{EdgesOf}
-use Rattle.translation.specs.declared.SheetRecord.{SheetRecord}
-use Rattle.translation.specs.inner.Records.{Records, recordsIn, recordIn}
+use Rattle.reader.specs.inner.Tabled.{recordOf}
+use Rattle.translation.specs.inner.Records.{Records, recordsIn}
 
 -- One of the rules has the head a and the positive atom b.
 unfoldable pub leads : List Rule → ℕ → ℕ → Bool
@@ -30,8 +31,8 @@ pub record RowsLinked (rules : List Rule) (old new : List ℕ) : Type 0 where
 
 -- The edges of a record's rules, and the fresh atom that comes next.
 pub record RecordLinked (r : SheetRecord) (fresh : ℕ) (old new : List ℕ) (then : ℕ) : Type 0 where
-  pub rows : RowsLinked (recordRules fresh (recordIn r)) old new
-  pub next : then ≡ nextFresh fresh (recordIn r)
+  pub rows : RowsLinked (recordRules fresh (recordOf r)) old new
+  pub next : then ≡ nextFresh fresh (recordOf r)
 
 -- The edges of the program of records over n written atoms.
 abbrev pub EdgesIn : ℕ → Records → List ℕ → Type 0

@@ -1,49 +1,30 @@
--- The records of a sheet in four arrays, as the functions here take them.
+-- The records of a sheet in a table, as the functions here take them.
 use mathlib.Core.List.{List}
 use mathlib.Core.Path.{_≡_}
 use Prim.Native.Nat.{ℕ, _+_, _-_, _≤_, _<_}
-use lib.ListN.{getD}
+use Rattle.tables.specs.declared.SheetRecord.{SheetRecord}
 use Rattle.sheet.specs.Sheet.{Record, choices}
 use Rattle.sheet.specs.inner.Walk.{AllSound}
-use Rattle.reader.specs.inner.Tabled.{recordOf, recordsAt}
-use Rattle.translation.specs.declared.SheetRecord.{SheetRecord}
+use Rattle.reader.specs.inner.Tabled.{recordsAt}
 
--- The first `count` records of four lists.
+-- The first `count` records of a table.
 pub record Records : Type 0 where
   pub count : ℕ
-  pub kinds : List ℕ
-  pub heads : List ℕ
-  pub pos : List ℕ
-  pub neg : List ℕ
+  pub words : List ℕ
 
-abbrev pub table : ℕ → List ℕ → List ℕ → List ℕ → List ℕ → Records
-table m ks hs ps ns = record { count = m; kinds = ks; heads = hs; pos = ps; neg = ns }
+abbrev pub held : ℕ → List ℕ → Records
+held m t = record { count = m; words = t }
 
 -- The records from the j-th on, and all of them.
 abbrev pub recordsFrom : Records → ℕ → List Record
-recordsFrom t j = recordsAt (t .kinds) (t .heads) (t .pos) (t .neg) j (t .count - j)
+recordsFrom t j = recordsAt (t .words) j (t .count - j)
 
 abbrev pub recordsIn : Records → List Record
-recordsIn t = recordsAt (t .kinds) (t .heads) (t .pos) (t .neg) 0 (t .count)
+recordsIn t = recordsAt (t .words) 0 (t .count)
 
--- The record of a kind, a head and two sets.
-abbrev pub recordIn : SheetRecord → Record
-recordIn r = recordOf (r .kind) (r .head) (r .pos) (r .neg)
-
--- The record at index j.
-abbrev pub recordAtIndex : Records → ℕ → Record
-recordAtIndex t j = recordOf (getD (t .kinds) j 0) (getD (t .heads) j 0) (getD (t .pos) j 0) (getD (t .neg) j 0)
-
--- r is the record at index j of four lists.
-pub record RecordAt (ks hs ps ns : List ℕ) (j : ℕ) (r : SheetRecord) : Type 0 where
-  pub kind : r .kind ≡ getD ks j 0
-  pub head : r .head ≡ getD hs j 0
-  pub pos : r .pos ≡ getD ps j 0
-  pub neg : r .neg ≡ getD ns j 0
-
--- r is the number of choice rules of any m records of these kinds.
-pub record ChoicesIn (kinds : List ℕ) (m r : ℕ) : Type 0 where
-  pub is : (hs ps ns : List ℕ) → r ≡ choices (recordsAt kinds hs ps ns 0 m)
+-- r is the number of choice rules of the first m records.
+pub record ChoicesIn (t : List ℕ) (m r : ℕ) : Type 0 where
+  pub is : r ≡ choices (recordsAt t 0 m)
   pub few : r ≤ m
 
 -- Records over n written atoms that have passed, with all fresh atoms below 64.

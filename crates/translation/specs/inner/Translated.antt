@@ -4,46 +4,46 @@ use mathlib.Core.List.{List, [], _∷_, map, _++_}
 use mathlib.Core.Path.{_≡_}
 use Prim.Native.Nat.{ℕ, _+_, _≤_}
 use lib.Dec.{eqb}
-use lib.ListN.{length, getD}
+use lib.ListN.{length}
 use Rattle.lists.specs.Lists.{filter}
 use Rattle.asp.specs.Program.{Rule}
 use Rattle.bits.specs.inner.Visited.{listed}
+use Rattle.tables.specs.inner.Rows.{rowAt}
+use Rattle.tables.specs.declared.SheetRecord.{SheetRecord}
+use Rattle.tables.specs.declared.ProgramEntry.{ProgramEntry}
+use Rattle.program.specs.inner.Held.{addedAtom, ruleOf, rulesAt, ProgramTable, programIn}
 use Rattle.sheet.specs.Sheet.{Record, ruleIn, adding, choices, programOf}
-use Rattle.program.specs.inner.Held.{ProgramTable, gathered, Sources, addedAtom, ruleOf, rulesAt, programIn}
-use Rattle.translation.specs.declared.TableEntry.{TableEntry}
 
--- The first k entries of a table of rules and constraints.
+-- The first k entries of a program.
 pub record Entries : Type 0 where
   pub k : ℕ
-  pub heads : List ℕ
-  pub pos : List ℕ
-  pub sources : List ℕ
-  pub added : List ℕ
+  pub list : List ℕ
 
-abbrev pub entries : ℕ → List ℕ → List ℕ → List ℕ → List ℕ → Entries
-entries k hs ps ss ads = record { k = k; heads = hs; pos = ps; sources = ss; added = ads }
+abbrev pub entries : ℕ → List ℕ → Entries
+entries k p = record { k = k; list = p }
 
--- Their heads and bodies, with the negative atoms that stand at the sources.
+-- Their rules, where t has the records.
 unfoldable pub entriesIn : List ℕ → Entries → List Rule
-entriesIn neg e = rulesAt (e .heads) (e .pos) (gathered (e .sources) neg) (e .added) 0 (e .k)
+entriesIn t e = rulesAt t (e .list) 0 (e .k)
 
--- Arrays of 192 with room for so many entries more.
+-- Room for so many entries more.
 pub record Room (more : ℕ) (e : Entries) : Type 0 where
-  pub heads : length (e .heads) ≡ 192
-  pub pos : length (e .pos) ≡ 192
-  pub sources : Sources (e .sources)
-  pub added : length (e .added) ≡ 192
+  pub long : length (e .list) ≡ 192
   pub room : e .k + more ≤ 192
 
--- The entries e, with more behind them, where a set of negative atoms stands at the source.
-pub record Appended (source set : ℕ) (e : Entries) (more : List Rule) (r : Entries) : Type 0 where
+-- The entries e, with more behind them, where the record x stands at the source.
+pub record Appended (source : ℕ) (x : SheetRecord) (e : Entries) (more : List Rule) (r : Entries) : Type 0 where
   pub long : Room 0 r
-  pub is : (neg : List ℕ) → getD neg source 0 ≡ set → entriesIn neg r ≡ entriesIn neg e ++ more
+  pub is : (t : List ℕ) → x ≡ rowAt t source → entriesIn t r ≡ entriesIn t e ++ more
   pub size : r .k ≡ e .k + length more
 
+-- The rule of an entry, with the sets of a record.
+unfoldable pub entryRule : ProgramEntry → SheetRecord → Rule
+entryRule x y = ruleOf (record { head = x .head; pos = y .pos; neg = y .neg; added = x .added })
+
 -- The entries e, with the entry x behind them, whatever stands at its source.
-pub record EntryAppended (e : Entries) (x : TableEntry) (r : Entries) : Type 0 where
-  pub appended : (set : ℕ) → Appended (x .source) set e (ruleOf (x .head) (x .pos) set (x .added) ∷ []) r
+pub record EntryAppended (e : Entries) (x : ProgramEntry) (r : Entries) : Type 0 where
+  pub appended : (y : SheetRecord) → Appended (x .source) y e (entryRule x y ∷ []) r
 
 -- What is entered for the atom a, which is added to the negative ones.
 pub record AddedTo (neg a r : ℕ) : Type 0 where

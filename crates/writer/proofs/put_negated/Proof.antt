@@ -2,8 +2,6 @@ use Rattle.writer.proofs.Signed.{negated-wrote, opposite-fits}
 use borrow.Author.Needs.{needs}
 use Rattle.writer.proofs.put_negated.Statement.{statement}
 use Rattle.writer.proofs.put_negated.Tie as tie
-use Rattle.writer.proofs.put_negated.Reads as reads
-use Rattle.writer.proofs.put_negated.Lts as lts
 
 -- src/lib.rt:40:20
 cast-out : tie.Need-cast-out

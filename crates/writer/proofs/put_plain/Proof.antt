@@ -2,8 +2,6 @@ use Rattle.writer.proofs.Signed.{plain-wrote}
 use borrow.Author.Needs.{needs}
 use Rattle.writer.proofs.put_plain.Statement.{statement}
 use Rattle.writer.proofs.put_plain.Tie as tie
-use Rattle.writer.proofs.put_plain.Reads as reads
-use Rattle.writer.proofs.put_plain.Lts as lts
 
 -- src/lib.rt:31:15
 cast-out : tie.Need-cast-out

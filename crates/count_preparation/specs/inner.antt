@@ -1,0 +1,3 @@
+-- What inner functions promise: no public promise rests on it.
+pub mod Asked
+pub mod Prepared
