@@ -1,4 +1,5 @@
 // Writing the words of one body in the unfolded program.
+#![tactic(auto)]
 ghost use Rattle.std.specs.Prelude.{◌+◌, ◌≤◌, length};
 ghost use Rattle.unfolding.specs.Unfolded.{last};
 ghost use Rattle.bits.specs.inner.Visited.{listed};

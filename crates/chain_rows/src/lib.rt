@@ -1,4 +1,5 @@
 // The rows of the table over the sets of a component's atoms: what an entry of the sequence changes in them.
+#![tactic(auto)]
 ghost use Rattle.std.specs.Prelude.{◌≡◌, true, ◌≤◌, ◌<◌, length, get_or};
 ghost use Rattle.bits.specs.inner.Sets.{has};
 ghost use Rattle.bits.specs.inner.Listed.{Low};

@@ -1,4 +1,5 @@
 // How many words, variables and clauses there are.
+#![tactic(auto)]
 ghost use Rattle.program.specs.inner.Held.{table_of};
 ghost use Rattle.copies.specs.inner.Ready.{Ready, unfolded_in};
 ghost use Rattle.clause_sizes.specs.inner.Numbers.{NumbersOf};
@@ -8,7 +9,7 @@ use tables::{Program, Table};
 use totals::totals_of;
 
 // How many words the clauses have, how many variables, and how many clauses there are.
-#[derive(Drop)]
+#[derive(Clone, Copy)]
 pub struct Numbers {
     pub words: usize,
     pub variables: usize,

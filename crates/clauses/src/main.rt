@@ -1,4 +1,5 @@
 // A sheet and a sequence on standard input; out come their clauses as DIMACS CNF text, or the refusal.
+#![tactic(auto)]
 ghost use Rattle.std.specs.Prelude.{◌≤◌, length, take};
 ghost use Rattle.dimacs.specs.Text.{sheet_of, sequence_of};
 ghost use Rattle.operations.specs.Outcome.{from_clauses};

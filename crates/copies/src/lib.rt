@@ -1,4 +1,5 @@
 // Copies of atoms along a sequence: what stands for each atom in the rules of a copy, and which rules are kept for it.
+#![tactic(auto)]
 ghost use Rattle.std.specs.Prelude.{true, cond, ◌≡◌, ◌+◌, ◌≤◌, ◌<◌, length};
 ghost use Rattle.lists.specs.Lists.{below};
 ghost use Rattle.unfolding.specs.Unfolded.{last};
@@ -73,7 +74,7 @@ fn index(place: u16) -> usize
 }
 
 // The copy of an entry: its atom and its variable; and the highest variable, with it, of the copies that are not their atom's last.
-#[derive(Drop)]
+#[derive(Clone, Copy)]
 pub struct EntryCopy {
     pub atom: usize,
     pub var: u32,
@@ -184,7 +185,7 @@ fn kept_rules(
 }
 
 // A copy to select rules for: how many rules there are, its atom, and the atoms whose latest copy so far keeps a rule.
-#[derive(Drop)]
+#[derive(Clone, Copy)]
 pub struct Selection {
     pub rules: usize,
     pub atom: usize,
@@ -192,7 +193,7 @@ pub struct Selection {
 }
 
 // What is selected: the atoms of the copy's component, how many rules are kept, and the atoms whose latest copy keeps a rule, with the copy.
-#[derive(Drop)]
+#[derive(Clone, Copy)]
 pub struct CopyStep {
     pub component: u64,
     pub kept: usize,
@@ -229,7 +230,7 @@ pub fn copy_step(
 }
 
 // A copy to make: its entry's, of the rules at the first k entries of a program, behind copies of which these atoms' latest keep a rule.
-#[derive(Drop)]
+#[derive(Clone, Copy)]
 pub struct NewCopy {
     pub entry: EntryCopy,
     pub k: usize,

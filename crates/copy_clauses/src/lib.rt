@@ -1,4 +1,5 @@
 // Writing the completion clauses of one copy.
+#![tactic(auto)]
 ghost use Rattle.std.specs.Prelude.{◌+◌, ◌≤◌, ◌<◌, length};
 ghost use Rattle.unfolding.specs.Unfolded.{last};
 ghost use Rattle.writer.specs.inner.Wrote.{Wrote};
@@ -14,14 +15,14 @@ use tables::{Program, Table};
 use writer::{put_negated, put_plain};
 
 // Where the next word goes, and the variable of the next rule.
-#[derive(Drop)]
+#[derive(Clone, Copy)]
 pub struct Ends {
     pub at: usize,
     pub rule: u32,
 }
 
 // Where a copy's words go and the variable of its first rule, its own variable, and how many rules it keeps.
-#[derive(Drop)]
+#[derive(Clone, Copy)]
 pub struct CopyPlace {
     pub ends: Ends,
     pub var: u32,

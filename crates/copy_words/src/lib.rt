@@ -1,4 +1,5 @@
 // Writing the words of one copy in the unfolded program.
+#![tactic(auto)]
 ghost use Rattle.std.specs.Prelude.{◌+◌, ◌≤◌, length};
 ghost use Rattle.unfolding.specs.Unfolded.{last};
 ghost use Rattle.writer.specs.inner.Wrote.{Wrote};
@@ -13,7 +14,7 @@ use tables::{Program, Table};
 use writer::put_word;
 
 // Where the next word goes, and how many entries are listed.
-#[derive(Drop)]
+#[derive(Clone, Copy)]
 pub struct Listing {
     pub at: usize,
     pub kept: usize,
@@ -47,7 +48,7 @@ fn put_listed(
 }
 
 // Where the next word goes, the variable of a copy, and how many rules it keeps.
-#[derive(Drop)]
+#[derive(Clone, Copy)]
 pub struct CopyPlace {
     pub at: usize,
     pub var: u32,

@@ -1,4 +1,5 @@
 // A sheet on standard input, one line out: the number of stable models and the verdict, or the refusal.
+#![tactic(auto)]
 use io::{print_decimal, write_all};
 use operations::{CountAnswer, Verdict};
 

@@ -1,5 +1,6 @@
 // The stable models of a sheet's program, counted over its records: a choice rule is a free rule, which applies only in states that hold
 // its head, so no fresh atom is looked at.
+#![tactic(auto)]
 ghost use Rattle.std.specs.Prelude.{◌≡◌, ◌≤◌, ◌<◌, length};
 ghost use Rattle.bits.specs.inner.Visited.{listed};
 ghost use Rattle.reader.specs.inner.Tabled.{ExactSets};
@@ -142,7 +143,7 @@ fn count_models(m: usize, records: &mut Table, ancestors: &[u64; 64], x: u64) ->
 }
 
 // Whether there are too many atoms to decide, and if not the number of stable models.
-#[derive(Drop)]
+#[derive(Clone, Copy)]
 pub struct Found {
     pub crowded: bool,
     pub states: u64,

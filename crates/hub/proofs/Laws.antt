@@ -1,5 +1,5 @@
 -- The demands of the hub, and what else is proved of its operations.
-use Rattle.core.specs.Prelude.{ℕ, ◌≤◌, List, length}
+use Rattle.std.specs.Prelude.{ℕ, ◌≤◌, List, length}
 use lib.Dec.{lit<, lit≤}
 use Rattle.operations.specs.Outputs.{missing_output}
 use Rattle.sheet.specs.Questions.{AllYes}

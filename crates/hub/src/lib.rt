@@ -1,5 +1,6 @@
 // The public operations, with the hub's limits. Each takes any bytes and finishes.
-ghost use Rattle.core.specs.Prelude.{◌≡◌};
+#![tactic(auto)]
+ghost use Rattle.std.specs.Prelude.{◌≡◌};
 ghost use Rattle.operations.specs.Outcome.{from_read, from_body, from_write, from_test, from_clauses, from_count};
 ghost use Rattle.operations.specs.Calls.{nothing, naturals, integers, Promised};
 ghost use Rattle.operations.specs.Calls as call;
@@ -33,56 +34,56 @@ fn limits() -> Limits
 pub fn read(s: &[u8]) -> ReadAnswer
     ensures { Promised hub (call.read s.now) (from_read result) nothing }
 {
-    core::read(limits(), s)
+    service_core::read(limits(), s)
 }
 
 // Showing a body: the refusal, or the number of positive atoms.
 pub fn body(s: &[u8], number: usize) -> BodyAnswer
     ensures { Promised hub (call.body number s.now) (from_body result) nothing }
 {
-    core::body(limits(), s, number)
+    service_core::body(limits(), s, number)
 }
 
 // Showing a body: its slice of the sheet, empty on a refusal.
 pub fn body_slice(s: &[u8], number: usize) -> &[u8]
     ensures { SlicePromise hub number s.now s.entry.ref_ptr result.now result.ref_ptr }
 {
-    core::body_slice(limits(), s, number)
+    service_core::body_slice(limits(), s, number)
 }
 
 // Finding components: for each atom one byte, the smallest atom of its component.
 pub fn components(s: &[u8], out: &mut [u8]) -> WriteAnswer
     ensures { Promised hub (call.components s.now out.old) (from_write result) (naturals out.new) }
 {
-    core::components(limits(), s, out)
+    service_core::components(limits(), s, out)
 }
 
 // The default sequence, header included.
 pub fn default_sequence(s: &[u8], out: &mut [u8]) -> WriteAnswer
     ensures { Promised hub (call.default s.now out.old) (from_write result) (naturals out.new) }
 {
-    core::default_sequence(limits(), s, out)
+    service_core::default_sequence(limits(), s, out)
 }
 
 // Writing lparse text: the refusal, or the number of bytes.
 pub fn lparse(s: &[u8], out: &mut [u8]) -> WriteAnswer
     ensures { Promised hub (call.lparse s.now out.old) (from_write result) (naturals out.new) }
 {
-    core::lparse(limits(), s, out)
+    service_core::lparse(limits(), s, out)
 }
 
 // Showing a body: the refusal, or where its slice of the sheet starts and ends.
 pub fn find_body(s: &[u8], number: usize) -> BodyPlace
     ensures { FindPromise hub number s.now result }
 {
-    core::find_body(limits(), s, number)
+    service_core::find_body(limits(), s, number)
 }
 
 // Counting the stable models: the refusal, or their number and the verdict.
 pub fn count(s: &[u8]) -> CountAnswer
     ensures { Promised hub (call.count s.now) (from_count result) nothing }
 {
-    core::count(limits(), s)
+    service_core::count(limits(), s)
 }
 
 // Testing a sequence: the refusal, or that it passed.
@@ -90,7 +91,7 @@ pub fn test(s: &[u8], q: &[u8]) -> TestAnswer
     ensures { Promised hub (call.test s.now q.now) (from_test result) nothing }
 {
     let mut table = [0u64; 16];
-    core::test(limits(), s, q, &mut table)
+    service_core::test(limits(), s, q, &mut table)
 }
 
 // Finding the missing chain: the refusal, or its number of atoms.
@@ -98,7 +99,7 @@ pub fn missing(s: &[u8], q: &[u8], out: &mut [u8]) -> WriteAnswer
     ensures { Promised hub (call.missing s.now q.now out.old) (from_write result) (naturals out.new) }
 {
     let mut table = [0u64; 16];
-    core::missing(limits(), s, q, out, &mut table)
+    service_core::missing(limits(), s, q, out, &mut table)
 }
 
 // Writing the unfolded program: the refusal, or the number of words.
@@ -106,7 +107,7 @@ pub fn unfolded(s: &[u8], q: &[u8], out: &mut [u32]) -> WriteAnswer
     ensures { Promised hub (call.unfolded s.now q.now out.old) (from_write result) (naturals out.new) }
 {
     let mut table = [0u64; 16];
-    core::unfolded(limits(), s, q, out, &mut table)
+    service_core::unfolded(limits(), s, q, out, &mut table)
 }
 
 // Writing clauses: the refusal, or the numbers of words, of variables and of clauses.
@@ -114,5 +115,5 @@ pub fn clauses(s: &[u8], q: &[u8], out: &mut [i32]) -> ClausesAnswer
     ensures { Promised hub (call.clauses s.now q.now out.old) (from_clauses result) (integers out.new) }
 {
     let mut table = [0u64; 16];
-    core::clauses(limits(), s, q, out, &mut table)
+    service_core::clauses(limits(), s, q, out, &mut table)
 }

@@ -1,4 +1,5 @@
 // The shortest chain that a sequence lacks, written atom by atom from its start.
+#![tactic(auto)]
 ghost use Rattle.std.specs.Prelude.{◌≡◌, true, ◌+◌, ◌≤◌, ◌<◌, length, drop};
 ghost use Rattle.lists.specs.Lists.{below};
 ghost use Rattle.bits.specs.inner.Listed.{Low, RisesTo};
@@ -18,7 +19,7 @@ use writer::put;
 
 // How a chain goes on: the position in the sequence behind its atoms so far, the places that are unused, the next of them, and how many
 // atoms are left to write, that one included.
-#[derive(Drop)]
+#[derive(Clone, Copy)]
 pub struct Extension {
     pub from: u16,
     pub unused: u64,
@@ -56,7 +57,7 @@ fn next_extension(
 }
 
 // Where the next atom of a chain goes, and how the chain goes on from it.
-#[derive(Drop)]
+#[derive(Clone, Copy)]
 pub struct ChainPoint {
     pub at: usize,
     pub extension: Extension,

@@ -1,6 +1,6 @@
 -- The starred probes of document 01 ("Probes at the limits"), one of copies that can never come on, two of lparse text, and two of missing
 -- chains: a table of what is asked and what is expected, and that the two agree.
-use Rattle.core.specs.Prelude.{◌≡◌, ℕ, List, [], ◌∷◌, map, replicate, pos as plus, neg_ℤ}
+use Rattle.std.specs.Prelude.{◌≡◌, ℕ, List, [], ◌∷◌, map, replicate, pos as plus, neg_ℤ}
 use Rattle.lists.specs.Lists.{filter, range}
 use Rattle.asp.specs.Count.{stable_models}
 use Rattle.unfolding.specs.Missing.{missing_chains}

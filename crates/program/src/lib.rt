@@ -1,4 +1,5 @@
 // A program as a table: the rules of its entries come first, in sheet order, and behind them the constraints.
+#![tactic(auto)]
 ghost use Rattle.std.specs.Prelude.{◌≡◌, ◌<◌};
 ghost use Rattle.program.specs.inner.Held.{table_rule};
 
@@ -6,7 +7,7 @@ use bits::wide;
 use tables::{Program, Table, entry_at, record_at};
 
 // The numbers of atoms, of rules and of constraints.
-#[derive(Drop)]
+#[derive(Clone, Copy)]
 pub struct ProgramSize {
     pub atoms: usize,
     pub rules: usize,
@@ -15,7 +16,7 @@ pub struct ProgramSize {
 
 // A rule as a table has it: its head, the sets of its positive and negative atoms, and an atom added to the negative ones, where a + 1
 // stands for the atom a and 0 for none. A constraint's head means nothing.
-#[derive(Drop)]
+#[derive(Clone, Copy)]
 pub struct TableRule {
     pub head: u8,
     pub pos: u64,

@@ -1,4 +1,5 @@
 // The questions about a sheet and a sequence, and the table of the sheet's program behind them.
+#![tactic(auto)]
 ghost use Rattle.std.specs.Prelude.{◌≡◌, ◌≤◌, length};
 ghost use Rattle.program.specs.inner.Held.{table_of};
 ghost use Rattle.components.specs.inner.Reachability.{NamesLow};
@@ -14,7 +15,7 @@ use tables::{Program, Table};
 use translation::program_of;
 
 // What the questions about a sheet and a sequence say: the refusal, or 0 with the size of the sheet's program.
-#[derive(Drop)]
+#[derive(Clone, Copy)]
 pub struct ProgramNumbers {
     pub refusal: u32,
     pub size: ProgramSize,

@@ -14,12 +14,6 @@ use Rattle.sheet.proofs.Records.{Checking, checking_start, checking_turn, checki
 use Rattle.reader.specs.declared.Entry.{Entry}
 use Rattle.reader.specs.inner.Tabled.{record_of, records_at, ExactRow, ExactSets, EntryRead, RecordsRead}
 
--- The record at `at`, of those from there on, and those behind it.
-pub records_next : (s : List ℕ) (left at : ℕ) → 0 < left → records_from left s at ≡ record_at s at ∷ records_from (left - 1) s (end s at)
-unfolding records_from
-records_next s zero at l = absurd (omega arith)
-records_next s (suc left) at l = let e : suc left - 1 ≡ left = omega arith in rw e refl
-
 -- The first j records are stored.
 pub record Tabling (n m : ℕ) (s : List ℕ) (j at : ℕ) (t : List ℕ) : Type 0 where
   pub checking : Checking n s m (m - j) at
@@ -33,6 +27,11 @@ module _ (n m : ℕ) (s : List ℕ) where
   unfolding records_at range
   tabling_start t l long = let e : m - 0 ≡ m = omega arith in record { checking = rw e (checking_start n s m l); few = omega arith; list = rw e refl; long = long; exact = λ i l. absurd (omega arith) }
 
+  first : (left at : ℕ) → 0 < left → records_from left s at ≡ record_at s at ∷ records_from (left - 1) s (end s at)
+  unfolding records_from
+  first zero at l = absurd (omega arith)
+  first (suc left) at l = let e : suc left - 1 ≡ left = omega arith in rw e refl
+
   module _ (j at : ℕ) (t : List ℕ) (T : Tabling n m s j at t) where
     module _ (lt : j < m) (r : Entry) (E : EntryRead n s at r) where
       pub tabling_turn : (u : List ℕ) → Stored row_at t j r.row u → r.refusal ≡ 0 → Tabling n m s (j + 1) r.end u
@@ -45,7 +44,7 @@ module _ (n m : ℕ) (s : List ℕ) where
             few = omega arith;
             list = ap (λ l. l ++ records_from (m - (j + 1)) s r.end) (rows_more row_at t j r.row u S record_of)
                 ∙ (append_assoc (records_at t 0 j) _ _
-                ∙ (ap (λ l. records_at t 0 j ++ l) (ap₂ (λ x l. x ∷ l) R.is (ap₂ (λ i e. records_from i s e) (sym less) R.end) ∙ sym (records_next s (m - j) at (omega arith)))
+                ∙ (ap (λ l. records_at t 0 j ++ l) (ap₂ (λ x l. x ∷ l) R.is (ap₂ (λ i e. records_from i s e) (sym less) R.end) ∙ sym (first (m - j) at (omega arith)))
                 ∙ T.list));
             long = S.long ∙ T.long;
             exact = all_more row_at t j r.row u S ExactRow (j + 1) (λ i l ne. T.exact i (omega arith)) R.exact;

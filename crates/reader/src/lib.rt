@@ -1,4 +1,5 @@
 // Reading a sheet, in one pass that asks questions 1 to 6 and gathers its records into a table.
+#![tactic(auto)]
 ghost use Rattle.std.specs.Prelude.{◌≡◌, ◌≤◌, length};
 ghost use Rattle.sheet.specs.inner.Walk.{Complete};
 ghost use Rattle.reader.specs.inner.Tabled.{ListRead, ListsRead, EntryRead, HeaderRead, RecordsRead};
@@ -8,7 +9,7 @@ use sheet::{Limits, is_complete, kind_passes};
 use tables::{SheetRecord, Table, store_record};
 
 // The set of a list of atoms, where the list passes question 6.
-#[derive(Drop)]
+#[derive(Clone, Copy)]
 pub struct Gather {
     pub ok: bool,
     pub set: u64,
@@ -37,7 +38,7 @@ fn gather_list(l: &[u8], n: usize) -> Gather
 }
 
 // A record, and where it ends; or the refusal.
-#[derive(Drop)]
+#[derive(Clone, Copy)]
 pub struct Entry {
     pub refusal: u32,
     pub end: usize,
@@ -94,7 +95,7 @@ fn read_lists(s: &[u8], at: usize, n: usize) -> Entry
 }
 
 // Questions 4, 5 and 6 of the record at an offset, and the record.
-pub fn read_record(s: &[u8], at: usize, n: usize) -> Entry
+fn read_record(s: &[u8], at: usize, n: usize) -> Entry
     requires { n ≤ 64 }
     ensures { EntryRead n s.now at result }
 {
@@ -108,7 +109,7 @@ pub fn read_record(s: &[u8], at: usize, n: usize) -> Entry
 }
 
 // What a sheet's first five bytes say: the refusal, or 0 with the numbers of atoms and of records.
-#[derive(Drop)]
+#[derive(Clone, Copy)]
 pub struct Header {
     pub refusal: u32,
     pub atoms: usize,

@@ -1,4 +1,5 @@
 // Writing the clauses of one rule.
+#![tactic(auto)]
 ghost use Rattle.std.specs.Prelude.{[], ◌∷◌, ◌+◌, ◌≤◌, ◌<◌, length};
 ghost use Rattle.unfolding.specs.Unfolded.{last};
 ghost use Rattle.unfolding.specs.Clauses.{signed, clause_words};

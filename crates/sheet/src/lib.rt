@@ -1,4 +1,5 @@
 // The bytes of records and of sequences: questions 4, 5 and 8, and walking from record to record.
+#![tactic(auto)]
 ghost use Rattle.std.specs.Prelude.{◌≡◌, true, ◌+◌, ◌≤◌, ◌<◌, length};
 ghost use Rattle.sheet.specs.Format.{complete, kind_fits, kind_passes, end};
 ghost use Rattle.sheet.specs.inner.Walk.{Complete, Walk, Stepped};
@@ -8,7 +9,7 @@ ghost use Rattle.lists.specs.Lists.{below};
 use bits::byte_at;
 
 // What a service takes: the most atoms of a sheet, fresh ones counted, atoms of a component, and entries of a sequence.
-#[derive(Drop)]
+#[derive(Clone, Copy)]
 pub struct Taken {
     pub atoms: usize,
     pub component: usize,
@@ -17,7 +18,7 @@ pub struct Taken {
 
 // The limits of the format: the most atoms of a sheet, also with the fresh ones, records, atoms of a component and entries of a sequence; and
 // what the service takes of these.
-#[derive(Drop)]
+#[derive(Clone, Copy)]
 pub struct Limits {
     pub atoms: usize,
     pub records: usize,

@@ -17,7 +17,7 @@ use Rattle.components.specs.inner.Reachability.{names_fit, Largest, ComponentsOf
 use Rattle.components.proofs.Graphs.{fits_same}
 use Rattle.choice.proofs.Expanded.{expanded_formed}
 use Rattle.operations.proofs.Questions.{graph_parted}
-use Rattle.sheet_check.specs.inner.Checked.{Expands, sizes_refusal, GraphChecked, ComponentsChecked}
+use Rattle.sheet_check.specs.inner.Checked.{Expands, sizes_refusal, GraphChecked}
 use Rattle.sheet_check.specs.declared.SheetNumbers.{SheetNumbers}
 
 -- The sizes of components, each way.
@@ -43,31 +43,20 @@ module _ (L : Limits) (n k : ℕ) where
     unfolding ask
     sizes_fine m w = sym (behind_seven ∙ rw (le-leb n L.taken.atoms m, le-leb k L.taken.component w) refl)
 
--- The graph of every program with these edges.
-pub components_checked : (L : Limits) (n : ℕ) (es cs ss : List ℕ) → GraphOf n es cs ss → (k : ℕ) → Largest n ss k → (refusal : ℕ) → refusal ≡ sizes_refusal L n k
-    → ComponentsChecked L n es cs ss refusal
-unfolding sizes_refusal
-components_checked L n es cs ss G k K refusal e =
-    record {
-      is = λ P formed atoms D.
-          let graph : ComponentsOf P cs ss = G.is P formed atoms D in
-          let fits : (most : ℕ) → leb k most ≡ components_fit most P =
-          λ most. K.is cs (rw (sym atoms) graph.grouped) most ∙ (ap (names_fit most cs) (sym atoms) ∙ fits_same P cs graph.named most)
-          in
-          record {
-            says = e ∙ sym (graph_parted L P ∙ sym (rw (fits L.component, fits L.taken.component, sym atoms) refl));
-            edged = D;
-            graph = graph;
-          };
-    }
-
--- That of records that can be made a program.
+-- The graph of records that can be made a program.
 module _ (t : Records) (r : SheetNumbers) (E : Expands t r) where
-  pub graph_low : r.atoms ≤ 64
-  graph_low = let low = E.expandable.low in let e = E.atoms in omega arith
-
-  pub graph_checked : (L : Limits) (es cs ss : List ℕ) → EdgesIn r.written t es → (refusal : ℕ) → ComponentsChecked L r.atoms es cs ss refusal
-      → GraphChecked L (program_of r.written (records_in t)) es cs ss refusal
-  unfolding program_of
-  graph_checked L es cs ss D refusal C =
-      C.is (program_of r.written (records_in t)) (expanded_formed r.written (records_in t) E.expandable.sound) (sym E.atoms) D
+  pub graph_checked : (L : Limits) (es cs ss : List ℕ) → EdgesIn r.written t es → GraphOf r.atoms es cs ss → (k : ℕ) → Largest r.atoms ss k
+      → (refusal : ℕ) → refusal ≡ sizes_refusal L r.atoms k → GraphChecked L r.written (records_in t) es cs ss refusal
+  unfolding sizes_refusal program_of
+  graph_checked L es cs ss D G k K refusal e =
+      let P = program_of r.written (records_in t) in
+      let atoms : P.atoms ≡ r.atoms = sym E.atoms in
+      let graph : ComponentsOf P cs ss = G.is P (expanded_formed r.written (records_in t) E.expandable.sound) atoms D in
+      let fits : (most : ℕ) → leb k most ≡ components_fit most P =
+      λ most. K.is cs (rw (sym atoms) graph.grouped) most ∙ (ap (names_fit most cs) (sym atoms) ∙ fits_same P cs graph.named most)
+      in
+      record {
+        says = e ∙ sym (graph_parted L P ∙ sym (rw (fits L.component, fits L.taken.component, E.atoms) refl));
+        edged = D;
+        graph = graph;
+      }

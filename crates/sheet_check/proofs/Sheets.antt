@@ -23,72 +23,54 @@ use Rattle.components.proofs.Graphs.{fits_members, named_members}
 use Rattle.chains.specs.inner.Components.{Graph, Small}
 use Rattle.choice.proofs.Sheets.{program_formed}
 use Rattle.operations.specs.Requirements.{Supported}
-use Rattle.operations.specs.inner.Refusals.{bytes_refusal, sheet_refusal}
+use Rattle.operations.specs.inner.Refusals.{bytes_refusal, graph_refusal, sheet_refusal}
 use Rattle.operations.proofs.Questions.{sheet_parted, sheet_passed}
-use Rattle.sheet_check.specs.inner.Checked.{RecordsKept, BytesChecked, Expands, GraphChecked, ComponentsChecked, SheetAccepted, SheetChecked, RecordsChecked}
+use Rattle.sheet_check.specs.inner.Checked.{BytesChecked, Expands, GraphChecked, SheetAccepted, SheetChecked, RecordsChecked}
 use Rattle.sheet_check.specs.declared.SheetNumbers.{SheetNumbers}
 use Rattle.sheet_check.proofs.Bytes.{kept_program, kept_expands}
 
--- Whatever is kept of the records.
-module _ (L : Limits) (s es cs ss : List ℕ) (r : SheetNumbers) (K : Type 0) (B : BytesChecked L s r K) where
-  refused_here : (x : SheetNumbers) → x.refusal ≡ sheet_refusal L s → (x.refusal ≡ 0 → ⊥) → SheetChecked L s es cs ss x
-  refused_here x e ne = record { says = e; accepted = λ z. absurd (ne z); edged = λ z. absurd (ne z) }
+module _ (L : Limits) (s : List ℕ) (S : Supported L) (t : List ℕ) (r : SheetNumbers) (B : BytesChecked L s t r) where
+  refused_here : (es cs ss : List ℕ) (x : SheetNumbers) → x.refusal ≡ sheet_refusal L s → (x.refusal ≡ 0 → ⊥) → RecordsChecked L s t es cs ss x
+  refused_here es cs ss x e ne =
+      record { asked = record { says = e; accepted = λ z. absurd (ne z); edged = λ z. absurd (ne z) }; kept = λ z. absurd (ne z) }
 
-  pub sheet_bytes : (r.refusal ≡ 0 → ⊥) → SheetChecked L s es cs ss r
-  sheet_bytes ne = refused_here r (B.says ∙ sym (sheet_parted L s ∙ then_refused (bytes_refusal L s) _ (λ z. ne (B.says ∙ z)))) ne
-
-  module _ (z : r.refusal ≡ 0) (q : ℕ) (G : GraphChecked L (program s) es cs ss q) where
-    says : q ≡ sheet_refusal L s
-    says = G.says ∙ sym (sheet_parted L s ∙ then_zero (bytes_refusal L s) _ (sym B.says ∙ z))
-
-    sheet_refused : (x : SheetNumbers) → (q ≡ 0 → ⊥) → x.refusal ≡ q → SheetChecked L s es cs ss x
-    sheet_refused x ne e = refused_here x (e ∙ says) (λ z. ne (sym e ∙ z))
-
-    sheet_fine : q ≡ 0 → SheetChecked L s es cs ss r
-    sheet_fine y =
-        let P = sheet_passed L s (sym says ∙ y) in
-        record {
-          says = z ∙ (sym y ∙ says);
-          accepted = λ _. record { bytes = B.accepted z; graph = G.graph; limit = P.components; taken = P.taken_components };
-          edged = λ _. G.edged;
-        }
-
--- Where the edges are kept.
-module _ (L : Limits) (s es : List ℕ) (r : SheetNumbers) (B : BytesChecked L s r (EdgesOf (program s) es)) (z : r.refusal ≡ 0) where
-  pub edges_low : r.atoms ≤ 64
-  edges_low = (B.accepted z).low
-
-  pub edges_long : length es ≡ 64
-  edges_long = (B.kept z).long
-
-  module _ (cs ss : List ℕ) (q : ℕ) (C : ComponentsChecked L r.atoms es cs ss q) where
-    graph : GraphChecked L (program s) es cs ss q
-    graph = C.is (program s) (program_formed L s (B.accepted z).form) (sym (B.accepted z).atoms) (B.kept z)
-
-    pub sheet_graphed : (x : SheetNumbers) → (q ≡ 0 → ⊥) → x.refusal ≡ q → SheetChecked L s es cs ss x
-    sheet_graphed = sheet_refused L s es cs ss r _ B z q graph
-
-    pub sheet_passes : q ≡ 0 → SheetChecked L s es cs ss r
-    sheet_passes = sheet_fine L s es cs ss r _ B z q graph
-
--- Where the records are kept in a table.
-module _ (L : Limits) (s : List ℕ) (S : Supported L) (t : List ℕ) (r : SheetNumbers) (B : BytesChecked L s r (RecordsKept s t r)) where
   pub checked_bytes : (es cs ss : List ℕ) → (r.refusal ≡ 0 → ⊥) → RecordsChecked L s t es cs ss r
-  checked_bytes es cs ss ne = record { asked = sheet_bytes L s es cs ss r _ B ne; kept = λ z. absurd (ne z) }
+  checked_bytes es cs ss ne =
+      refused_here es cs ss r (B.says ∙ sym (sheet_parted L s ∙ then_refused (bytes_refusal L s) _ (λ z. ne (B.says ∙ z)))) ne
 
   module _ (z : r.refusal ≡ 0) where
     pub checked_expands : Expands (held r.records t) r
     checked_expands = kept_expands L s S t r (B.accepted z) (B.kept z)
 
-    module _ (es cs ss : List ℕ) (q : ℕ) (G : GraphChecked L (program_of r.written (records_in (held r.records t))) es cs ss q) where
-      graphed : GraphChecked L (program s) es cs ss q
-      graphed = subst (λ P. GraphChecked L P es cs ss q) (kept_program L s S t r (B.accepted z) (B.kept z)) G
+    module _ (es cs ss : List ℕ) (q : ℕ) (G : GraphChecked L r.written (records_in (held r.records t)) es cs ss q) where
+      same : program_of r.written (records_in (held r.records t)) ≡ program s
+      same = kept_program L s S t r (B.accepted z) (B.kept z)
+
+      says : q ≡ sheet_refusal L s
+      says = G.says ∙ (ap (graph_refusal L) same ∙ sym (sheet_parted L s ∙ then_zero (bytes_refusal L s) _ (sym B.says ∙ z)))
 
       pub checked_graph : (x : SheetNumbers) → (q ≡ 0 → ⊥) → x.refusal ≡ q → RecordsChecked L s t es cs ss x
-      checked_graph x ne e = record { asked = sheet_refused L s es cs ss r _ B z q graphed x ne e; kept = λ z. absurd (ne (sym e ∙ z)) }
+      checked_graph x ne e = refused_here es cs ss x (e ∙ says) (λ z. ne (sym e ∙ z))
+
+      fine : q ≡ 0 → RecordsChecked L s t es cs ss r
+      fine y =
+          let P = sheet_passed L s (sym says ∙ y) in
+          record {
+            asked = record {
+              says = z ∙ (sym y ∙ says);
+              accepted = λ _. record {
+                bytes = B.accepted z;
+                graph = subst (λ P. ComponentsOf P cs ss) same G.graph;
+                limit = P.components;
+                taken = P.taken_components;
+              };
+              edged = λ _. subst (λ P. EdgesOf P es) same G.edged;
+            };
+            kept = B.kept;
+          }
 
       pub checked_fine : (x : SheetNumbers) → q ≡ 0 → x ≡ r → RecordsChecked L s t es cs ss x
-      checked_fine x y e = rw e (record { asked = sheet_fine L s es cs ss r _ B z q graphed y; kept = B.kept })
+      checked_fine x y e = rw e (fine y)
 
 -- A sheet that is accepted.
 module _ (L : Limits) (s cs ss : List ℕ) (r : SheetNumbers) (A : SheetAccepted L s cs ss r) where

@@ -1,21 +1,18 @@
 // The questions about a sheet, in two steps: those about its bytes and records, then those about the graph of its records.
-ghost use Rattle.std.specs.Prelude.{◌≡◌, ◌≤◌, length, replicate};
-ghost use Rattle.sheet.specs.Sheet.{program_of, program};
-ghost use Rattle.components.specs.inner.Reachability.{EdgesOf};
+#![tactic(auto)]
+ghost use Rattle.std.specs.Prelude.{◌≡◌, length};
 ghost use Rattle.translation.specs.inner.Records.{held, records_in};
 ghost use Rattle.operations.specs.Requirements.{Supported};
-ghost use Rattle.sheet_check.specs.inner.Checked.{RecordsKept, BytesChecked, Expands, GraphArrays, sizes_refusal, GraphChecked};
-ghost use Rattle.sheet_check.specs.inner.Checked.{ComponentsChecked, SheetChecked, RecordsChecked};
+ghost use Rattle.sheet_check.specs.inner.Checked.{BytesChecked, Expands, GraphArrays, sizes_refusal, GraphChecked, SheetChecked, RecordsChecked};
 
 use components::{components_of, largest};
-use edge_reader::read_edges;
 use reader::{read_header, read_records};
 use sheet::Limits;
 use tables::Table;
 use translation::{choices_in, edges_of};
 
 // What the questions about a sheet say: the refusal, or 0 with its numbers of written atoms, of records and of all atoms.
-#[derive(Drop)]
+#[derive(Clone, Copy)]
 pub struct SheetNumbers {
     pub refusal: u32,
     pub written: usize,
@@ -38,7 +35,7 @@ fn refused(refusal: u32) -> SheetNumbers
 // the table.
 pub fn check_bytes(limits: Limits, s: &[u8], records: &mut Table) -> SheetNumbers
     requires { Supported limits × (length records.old ≡ 384) }
-    ensures { BytesChecked limits s.now result (RecordsKept s.now records.new result) }
+    ensures { BytesChecked limits s.now records.new result }
 {
     let header = read_header(limits, s);
     if header.refusal != 0 {
@@ -51,33 +48,6 @@ pub fn check_bytes(limits: Limits, s: &[u8], records: &mut Table) -> SheetNumber
         return refused(refusal);
     }
     let atoms = n + choices_in(records, m);
-    if limits.atoms < atoms {
-        return refused(13);
-    }
-    SheetNumbers {
-        refusal: 0,
-        written: n,
-        records: m,
-        atoms,
-    }
-}
-
-// The same questions, where the records are not needed behind them: the edges of their program are put into rows that are empty.
-fn check_edges(limits: Limits, s: &[u8], edges: &mut [u64; 64]) -> SheetNumbers
-    requires { Supported limits × (edges.old ≡ replicate 64 0) }
-    ensures { BytesChecked limits s.now result (EdgesOf (program s.now) edges.new) }
-{
-    let header = read_header(limits, s);
-    if header.refusal != 0 {
-        return refused(header.refusal);
-    }
-    let n = header.atoms;
-    let m = header.records;
-    let links = read_edges(s, n, m, edges);
-    if links.refusal != 0 {
-        return refused(links.refusal);
-    }
-    let atoms = links.atoms;
     if limits.atoms < atoms {
         return refused(13);
     }
@@ -105,24 +75,8 @@ fn sizes_refusal(limits: Limits, atoms: usize, largest: usize) -> u32
     0
 }
 
-// The questions about the graph with these edges: 7, then 15. Its components' names and their sets are left in the arrays, and the atoms that lead
-// to each where there is room for them.
-fn check_components(
-    limits: Limits,
-    atoms: usize,
-    edges: &[u64; 64],
-    names: &mut [u8; 64],
-    sets: &mut [u64; 64],
-    ancestors: &mut [u64],
-) -> u32
-    requires { (atoms ≤ 64) × (length edges.now ≡ 64) × (length names.old ≡ 64) × (sets.old ≡ replicate 64 0) }
-    ensures { ComponentsChecked limits atoms edges.now names.new sets.new result }
-{
-    components_of(atoms, edges, names, sets, ancestors);
-    sizes_refusal(limits, atoms, largest(sets, atoms))
-}
-
-// The questions about the graph of records: 7, then 15. The edges of their program are left in the arrays, too.
+// The questions about the graph of records: 7, then 15. The edges of their program, its components' names and their sets are left in the
+// arrays, and the atoms that lead to each where there is room for them.
 pub fn check_graph(
     limits: Limits,
     numbers: SheetNumbers,
@@ -133,11 +87,13 @@ pub fn check_graph(
     ancestors: &mut [u64],
 ) -> u32
     requires { Expands (held numbers.records records.now) numbers × GraphArrays edges.old names.old sets.old }
-    ensures { GraphChecked limits (program_of numbers.written (records_in (held numbers.records records.now)))
+    ensures { GraphChecked limits numbers.written (records_in (held numbers.records records.now))
         edges.new names.new sets.new result }
 {
+    let atoms = numbers.atoms;
     edges_of(numbers.written, numbers.records, records, edges);
-    check_components(limits, numbers.atoms, edges, names, sets, ancestors)
+    components_of(atoms, edges, names, sets, ancestors);
+    sizes_refusal(limits, atoms, largest(sets, atoms))
 }
 
 // The questions about a sheet: 1 to 6, 13, then 7 and 15. The records are left in the table, and their graph in the arrays.
@@ -175,14 +131,7 @@ pub fn check_sheet(
     requires { Supported limits × GraphArrays edges.old names.old sets.old }
     ensures { SheetChecked limits s.now edges.new names.new sets.new result }
 {
-    let numbers = check_edges(limits, s, edges);
-    if numbers.refusal != 0 {
-        return numbers;
-    }
+    let mut records = [0u64; 384];
     let mut none = [0u64; 0];
-    let refusal = check_components(limits, numbers.atoms, edges, names, sets, &mut none);
-    if refusal != 0 {
-        return refused(refusal);
-    }
-    numbers
+    check_records(limits, s, &mut records, edges, names, sets, &mut none)
 }

@@ -1,4 +1,5 @@
 // Where a missing chain starts: in one component, by its table over sets, and the earlier of two.
+#![tactic(auto)]
 ghost use Rattle.std.specs.Prelude.{◌≡◌, true, ◌≤◌, length, drop};
 ghost use Rattle.lists.specs.Lists.{below};
 ghost use Rattle.bits.specs.inner.Visited.{listed};
@@ -11,7 +12,7 @@ use chain_table::fill;
 use missing_places::{lacking, shortest};
 
 // Where a missing chain starts: how many atoms it has, the first of them, and the atoms of its component. 65 atoms stand for none.
-#[derive(Drop)]
+#[derive(Clone, Copy)]
 pub struct Start {
     pub length: usize,
     pub atom: usize,

@@ -1,11 +1,12 @@
 // The two arrays that operations lend each other: a sheet's records, and the entries of its program. What they hold is read and stored
 // here alone.
+#![tactic(auto)]
 ghost use Rattle.std.specs.Prelude.{◌≡◌, ◌<◌, length};
 ghost use Rattle.lists.specs.Rows.{Stored};
 ghost use Rattle.tables.specs.inner.Rows.{row_at, entry_at};
 
 // A record.
-#[derive(Drop)]
+#[derive(Clone, Copy)]
 pub struct SheetRecord {
     pub kind: u8,
     pub head: u8,
@@ -44,7 +45,7 @@ pub fn store_record(records: &mut Table, j: usize, r: SheetRecord)
 
 // An entry of a program: a rule's head, the record that has its two sets, and the atom that is added to the negative ones, where a + 1
 // stands for the atom a and 0 for none.
-#[derive(Drop)]
+#[derive(Clone, Copy)]
 pub struct ProgramEntry {
     pub head: u8,
     pub source: u8,

@@ -1,4 +1,5 @@
 // How many rules and constraints the unfolded program has, and how many atoms stand in their bodies.
+#![tactic(auto)]
 ghost use Rattle.std.specs.Prelude.{◌≡◌, ◌≤◌};
 ghost use Rattle.program.specs.inner.Held.{table_of};
 ghost use Rattle.copies.specs.inner.Bodies.{body_atoms};
@@ -55,7 +56,7 @@ fn listed_sum(sizes: &[u8; 192], entries: &[u8; 192], k: usize) -> usize
 }
 
 // How many rules the copies keep, and how many atoms their bodies have; the same of the constraints.
-#[derive(Drop)]
+#[derive(Clone, Copy)]
 pub struct Totals {
     pub rules: usize,
     pub atoms: usize,

@@ -1,4 +1,4 @@
--- Laws of the loops that gather the edges of records' rules.
+-- Laws of the loop that gathers the edges of the records' rules.
 use mathlib.Core.Bool.{Bool, ◌&&◌, ◌||◌, or-false, or_comm, or_assoc}
 use mathlib.Core.List.{List, [], ◌∷◌, ◌++◌}
 use mathlib.Core.Path.{◌≡◌, refl, sym, ◌∙◌, ap}
@@ -9,7 +9,7 @@ use borrow.Author.Tests.{eqb-true, eqb-false, eq-eqb, ne_eqb}
 use lib.Dec.{eqb}
 use lib.ListN.{length, get_or, set, length-set, replicate, length-replicate, get_or-replicate}
 use lib.Seq.{get_or-set_same, get_or-set_other}
-use Rattle.lists.specs.Lists.{any, filter, member}
+use Rattle.lists.specs.Lists.{any, member}
 use Rattle.lists.proofs.Bools.{by_bool}
 use Rattle.lists.proofs.Members.{any_append}
 use Rattle.asp.specs.Program.{Rule}
@@ -20,27 +20,23 @@ use Rattle.bits.proofs.Digits.{zero_has}
 use Rattle.bits.proofs.Visiting.{listed_member}
 use Rattle.tables.specs.inner.Rows.{row_at}
 use Rattle.tables.specs.declared.SheetRecord.{SheetRecord}
-use Rattle.components.specs.inner.Reachability.{EdgesOf}
-use Rattle.sheet.specs.Sheet.{Record, record_rules, next_fresh, unless, rules_of, choices, program_of}
+use Rattle.sheet.specs.Sheet.{record_rules, next_fresh, unless, rules_of, program_of}
 use Rattle.reader.specs.inner.Tabled.{record_of}
-use Rattle.translation.specs.inner.Records.{Records, records_from, records_in, Expandable}
+use Rattle.translation.specs.inner.Records.{Records, records_from, records_in, Expandable, FreshFor}
 use Rattle.translation.specs.inner.Linked.{leads, Linked, RowsLinked, RecordLinked, EdgesIn}
-use Rattle.translation.proofs.Records.{records_left, records_over, records_all, choices_next}
+use Rattle.translation.proofs.Records.{records_left, records_over, records_all, Numbering, numbering_start, numbering_turn, fresh_for}
 
--- One row, or none where the atom has none.
+-- One row.
 pub linked : (rows : List ℕ) (h x r : ℕ) → length rows ≡ 64 → h < 64 → x < 2 ^ 64 → Either (get_or rows h 0) x r → Linked h x rows (set rows h r)
 linked rows h x r n l w E =
     record {
       long = length-set rows h r ∙ n;
-      bits = λ a b s. by_bool (eqb h a)
+      bits = λ a b. by_bool (eqb h a)
           (λ q. let e = eqb-true h a q in
           ap (λ y. has y b) (ap (λ i. get_or (set rows h r) i 0) (sym e) ∙ get_or-set_same rows h r 0 (omega arith))
           ∙ (E.members b ∙ (or_comm (has (get_or rows h 0) b) (has x b) ∙ rw (q, listed_member x b w, ← e) refl)))
           (λ q. ap (λ y. has y b) (get_or-set_other rows h a r 0 (λ k. eqb-false h a q (sym k))) ∙ sym (rw q refl));
     }
-
-pub linked_nowhere : (rows : List ℕ) (h x : ℕ) → length rows ≡ 64 → 64 ≤ h → Linked h x rows rows
-linked_nowhere rows h x n l = record { long = n; bits = λ a b s. sym (rw (ne_eqb h a (λ e. omega arith)) refl) }
 
 -- The rows of several rules.
 leads_append : (x y : List Rule) (a b : ℕ) → leads (x ++ y) a b ≡ (leads x a b || leads y a b)
@@ -49,17 +45,17 @@ leads_append x y a b = any_append (λ r. eqb r.head a && member b r.body.pos) x 
 
 rows_none : (rows : List ℕ) → length rows ≡ 64 → RowsLinked [] rows rows
 unfolding leads any
-rows_none rows n = record { long = n; bits = λ a b s. refl }
+rows_none rows n = record { long = n; bits = λ a b. refl }
 
 rows_more : (r : Rule) (x : ℕ) (rules : List Rule) (old mid new : List ℕ) → r.body.pos ≡ listed x → Linked r.head x old mid → RowsLinked rules mid new → RowsLinked (r ∷ rules) old new
 unfolding leads any
 rows_more r x rules old mid new e L R =
     record {
       long = R.long;
-      bits = λ a b s.
+      bits = λ a b.
           let here = eqb r.head a && member b r.body.pos in
-          R.bits a b s
-          ∙ (ap (λ (z : Bool). leads rules a b || z) (L.bits a b s ∙ ap (λ l. (eqb r.head a && member b l) || has (get_or old a 0) b) (sym e))
+          R.bits a b
+          ∙ (ap (λ (z : Bool). leads rules a b || z) (L.bits a b ∙ ap (λ l. (eqb r.head a && member b l) || has (get_or old a 0) b) (sym e))
           ∙ (sym (or_assoc (leads rules a b) here (has (get_or old a 0) b)) ∙ ap (λ (z : Bool). z || has (get_or old a 0) b) (or_comm (leads rules a b) here)));
     }
 
@@ -93,65 +89,60 @@ module _ (r : SheetRecord) (fresh k : ℕ) (K : k ≡ r.kind) (rows : List ℕ) 
       let not_two = ne_eqb r.kind 2 (λ e. t (K ∙ e)) in
       record { rows = rw (not_zero, not_two) (rows_none rows n); next = sym (rw not_two refl) }
 
--- The edges of the records that are left, with fresh atoms from one on, and those in the rows, are those of all.
-pub record Linking (n : ℕ) (all left : List Record) (rows : List ℕ) (fresh : ℕ) : Type 0 where
-  pub long : length rows ≡ 64
-  pub number : fresh + choices left ≡ n + choices all
-  pub bits : (a b : ℕ) → a < 64 → (leads (rules_of fresh left) a b || has (get_or rows a 0) b) ≡ leads (rules_of n all) a b
+  module _ (F : FreshFor r fresh) where
+    pub rule_low : (h : ℕ) → h ≡ r.head → k ≡ 0 → h < 64
+    rule_low h H z = let l = F.heads (sym K ∙ z) in omega arith
 
-module _ (n : ℕ) (all : List Record) where
-  pub linking_none : (rows : List ℕ) → rows ≡ replicate 64 0 → Linking n all all rows n
-  linking_none rows e =
+    pub choice_low : (h : ℕ) → h ≡ r.head → k ≡ 2 → h < 64
+    choice_low h H z = let l = (F.choice (sym K ∙ z)).0 in omega arith
+
+    pub fresh_low : k ≡ 2 → fresh < 64
+    fresh_low z = (F.choice (sym K ∙ z)).1
+
+    pub fresh_fits : k ≡ 2 → fresh + 1 < 2 ^ 64
+    fresh_fits z = let l = fresh_low z in omega arith
+
+-- The edges of the records that are left, and those in the table, are all.
+pub record Linking (n : ℕ) (t : Records) (j : ℕ) (rows : List ℕ) (fresh : ℕ) : Type 0 where
+  pub long : length rows ≡ 64
+  pub number : Numbering n t j fresh
+  pub bits : (a b : ℕ) → a < 64 → (leads (rules_of fresh (records_from t j)) a b || has (get_or rows a 0) b) ≡ leads (rules_of n (records_in t)) a b
+
+module _ (n : ℕ) (t : Records) where
+  pub linking_start : (rows : List ℕ) → rows ≡ replicate 64 0 → Linking n t 0 rows n
+  linking_start rows e =
       rw e
       (record {
         long = length-replicate {A = ℕ} 64 0;
-        number = refl;
-        bits = λ a b l. rw (get_or-replicate {A = ℕ} 64 a 0 0 l, zero_has b) (or-false (leads (rules_of n all) a b));
+        number = numbering_start n t;
+        bits = λ a b l. rw (get_or-replicate {A = ℕ} 64 a 0 0 l, zero_has b) (or-false (leads (rules_of n (records_from t 0)) a b) ∙ ap (λ rs. leads (rules_of n rs) a b) (records_all t));
       })
 
-  pub linking_next : (r : SheetRecord) (x : Record) (left : List Record) (rows new : List ℕ) (fresh next : ℕ) → Linking n all (x ∷ left) rows fresh → record_of r ≡ x
-      → RecordLinked r fresh rows new next → Linking n all left new next
-  unfolding rules_of
-  linking_next r x left rows new fresh next L is M =
-      let e : next ≡ next_fresh fresh x = M.next ∙ ap (next_fresh fresh) is in
-      record {
-        long = M.rows.long;
-        number = ap (λ f. f + choices left) e ∙ (sym (choices_next fresh x left) ∙ L.number);
-        bits = λ a b s.
-            let rest = rules_of next left in
-            let here = record_rules fresh (record_of r) in
-            let old = has (get_or rows a 0) b in
-            let split : rules_of fresh (x ∷ left) ≡ here ++ rest = rw (is, e) refl in
-            ap (λ (z : Bool). leads rest a b || z) (M.rows.bits a b s)
-            ∙ (sym (or_assoc (leads rest a b) (leads here a b) old)
-            ∙ (ap (λ (z : Bool). z || old) (or_comm (leads rest a b) (leads here a b) ∙ (sym (leads_append here rest a b) ∙ ap (λ rs. leads rs a b) (sym split))) ∙ L.bits a b s));
-      }
+  module _ (j : ℕ) (rows : List ℕ) (fresh : ℕ) (L : Linking n t j rows fresh) where
+    module _ (l : j < t.count) (r : SheetRecord) (R : r ≡ row_at t.words j) where
+      pub linking_fresh : Expandable n t → FreshFor r fresh
+      linking_fresh E = fresh_for n t E j fresh L.number l r R
 
-  module _ (rows : List ℕ) (fresh : ℕ) (L : Linking n all [] rows fresh) where
-    pub linking_number : fresh ≡ n + choices all
-    unfolding choices filter
-    linking_number = let e = L.number in omega arith
+      pub linking_turn : (new : List ℕ) (next : ℕ) → RecordLinked r fresh rows new next → Linking n t (j + 1) new next
+      unfolding rules_of
+      linking_turn new next M =
+          let is = ap record_of R in
+          let e : next ≡ next_fresh fresh (record_of (row_at t.words j)) = M.next ∙ ap (next_fresh fresh) is in
+          record {
+            long = M.rows.long;
+            number = numbering_turn n t j fresh next L.number l e;
+            bits = λ a b s.
+                let rest = rules_of next (records_from t (j + 1)) in
+                let here = record_rules fresh (record_of r) in
+                let old = has (get_or rows a 0) b in
+                let split : rules_of fresh (records_from t j) ≡ here ++ rest = ap (rules_of fresh) (records_left t j l) ∙ rw (is, e) refl in
+                ap (λ (z : Bool). leads rest a b || z) (M.rows.bits a b)
+                ∙ (sym (or_assoc (leads rest a b) (leads here a b) old)
+                ∙ (ap (λ (z : Bool). z || old) (or_comm (leads rest a b) (leads here a b) ∙ (sym (leads_append here rest a b) ∙ ap (λ rs. leads rs a b) (sym split))) ∙ L.bits a b s));
+          }
 
-    pub linking_edges : n + choices all ≤ 64 → EdgesOf (program_of n all) rows
+    pub linking_end : Expandable n t → t.count ≤ j → EdgesIn n t rows
     unfolding leads any rules_of edge program_of
-    linking_edges low = record { long = L.long; bits = λ a s b. L.bits a b (omega arith) }
-
--- The loop over a table.
-pub record TableLinking (n : ℕ) (t : Records) (j : ℕ) (rows : List ℕ) (fresh : ℕ) : Type 0 where
-  pub linking : Linking n (records_in t) (records_from t j) rows fresh
-
-module _ (n : ℕ) (t : Records) where
-  pub linking_start : (rows : List ℕ) → rows ≡ replicate 64 0 → TableLinking n t 0 rows n
-  linking_start rows e = record { linking = rw (records_all t) (linking_none n (records_in t) rows e) }
-
-  module _ (E : Expandable n t) (j : ℕ) (rows : List ℕ) (fresh : ℕ) (L : TableLinking n t j rows fresh) where
-    pub linking_small : fresh < 256
-    linking_small = let low = E.low in let e = L.linking.number in omega arith
-
-    pub linking_turn : j < t.count → (r : SheetRecord) → r ≡ row_at t.words j → (new : List ℕ) (next : ℕ) → RecordLinked r fresh rows new next
-        → TableLinking n t (j + 1) new next
-    linking_turn l r R new next M =
-        record { linking = linking_next n (records_in t) r _ _ rows new fresh next (rw (records_left t j l) at L.linking) (ap record_of R) M }
-
-    pub linking_end : t.count ≤ j → EdgesIn n t rows
-    linking_end l = linking_edges n (records_in t) rows fresh (rw (records_over t j l) at L.linking) E.low
+    linking_end E l =
+        let low = E.low in
+        record { long = L.long; bits = λ a s b. rw (records_over t j l) at (L.bits a b (omega arith)) }

@@ -52,10 +52,6 @@ pub choices_next : (f : ℕ) (r : Record) (rs : List Record) → f + choices (r 
 unfolding choices next_fresh filter
 choices_next f r rs = by_bool (eqb r.kind 2) (λ t. rw t (omega arith)) (λ t. rw t refl)
 
-pub next_few : (f : ℕ) (r : Record) → next_fresh f r ≤ f + 1
-unfolding next_fresh
-next_few f r = by_bool (eqb r.kind 2) (λ t. rw t (omega arith)) (λ t. rw t (omega arith))
-
 -- The fresh atoms that are left, from one on, are all.
 pub record Numbering (n : ℕ) (t : Records) (j fresh : ℕ) : Type 0 where
   pub same : fresh + choices (records_from t j) ≡ n + choices (records_in t)
@@ -91,14 +87,6 @@ module _ (n : ℕ) (t : Records) where
           heads = λ e. let h = ltb-true r.head n (kind_rule n r.kind r.head e ∙ passed) in omega arith;
           choice = λ e. let h = ltb-true r.head n (kind_choice n r.kind r.head e ∙ passed) in let f = kind_is e in (omega arith, omega arith);
         }
-
--- So it is of a choice rule whose kind is given.
-module _ (r : SheetRecord) (fresh k : ℕ) (K : k ≡ r.kind) (F : FreshFor r fresh) (z : k ≡ 2) where
-  pub choice_low : (h : ℕ) → h ≡ r.head → h < 64
-  choice_low h H = let l = (F.choice (sym K ∙ z)).0 in omega arith
-
-  pub fresh_low : fresh < 64
-  fresh_low = (F.choice (sym K ∙ z)).1
 
 -- Counting choice rules.
 pub record Choosing (t : List ℕ) (m j number : ℕ) : Type 0 where

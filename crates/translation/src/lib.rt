@@ -1,4 +1,5 @@
 // What the records of a sheet stand for: the number of choice rules, the edges of the program's graph, and the program itself.
+#![tactic(auto)]
 ghost use Rattle.std.specs.Prelude.{cond, ◌≡◌, suc, ◌≤◌, ◌<◌, eqb, length, replicate};
 ghost use Rattle.program.specs.inner.Held.{table_of};
 ghost use Rattle.sheet.specs.Sheet.{record_rules};
@@ -37,20 +38,17 @@ pub fn choices_in(records: &Table, m: usize) -> usize
     number
 }
 
-// The atoms of a set get edges to h, where it has a row.
+// The atoms of a set get edges to h.
 fn link(rows: &mut [u64; 64], h: usize, pos: u64)
-    requires { length rows.old ≡ 64 }
+    requires { (length rows.old ≡ 64) × (h < 64) }
     ensures { Linked h pos rows.old rows.new }
 {
-    if 64 <= h {
-        return;
-    }
     rows[h] = union(rows[h], pos);
 }
 
 // The edges of a record's rules, each in the row of the atom that it leads to; the fresh atom that comes next.
-pub fn link_record(rows: &mut [u64; 64], r: SheetRecord, fresh: usize) -> usize
-    requires { (length rows.old ≡ 64) × (fresh < 256) }
+fn link_record(rows: &mut [u64; 64], r: SheetRecord, fresh: usize) -> usize
+    requires { (length rows.old ≡ 64) × FreshFor r fresh }
     ensures { RecordLinked r fresh rows.old rows.new result }
 {
     let kind = wide(r.kind);

@@ -1,4 +1,5 @@
 // Writing into a lent buffer that has room.
+#![tactic(auto)]
 ghost use Rattle.std.specs.Prelude.{[], ◌∷◌, ◌<◌, pos, neg_ℤ, length};
 ghost use Rattle.writer.specs.inner.Wrote.{Wrote};
 

@@ -1,10 +1,9 @@
 -- What the questions about a sheet promise: the refusal, and what is known where there is none.
 use Rattle.std.specs.Prelude.{true, ◌&&◌, List, ◌≡◌, ℕ, ◌+◌, ◌≤◌, leb, length, replicate}
-use Rattle.asp.specs.Program.{Program, well_formed}
 use Rattle.sheet.specs.Questions.{ask, ◌then◌}
 use Rattle.sheet.specs.Format.{atoms_byte, records_byte}
 use Rattle.sheet.specs.inner.Walk.{form_refusal}
-use Rattle.sheet.specs.Sheet.{records, choices, program}
+use Rattle.sheet.specs.Sheet.{Record, records, choices, program_of, program}
 use Rattle.sheet.specs.declared.Limits.{Limits}
 use Rattle.reader.specs.inner.Tabled.{records_at, ExactSets}
 use Rattle.translation.specs.inner.Records.{Records, records_in, Expandable}
@@ -27,11 +26,11 @@ pub record RecordsKept (s t : List ℕ) (r : SheetNumbers) : Type 0 where
   pub exact : ExactSets r.records t
   pub long : length t ≡ 384
 
--- The questions about the bytes and the records of a sheet, and where there is no refusal what is kept of it besides.
-pub record BytesChecked (L : Limits) (s : List ℕ) (r : SheetNumbers) (Kept : Type 0) : Type 0 where
+-- The questions about the bytes and the records of a sheet, and its records where there is no refusal.
+pub record BytesChecked (L : Limits) (s t : List ℕ) (r : SheetNumbers) : Type 0 where
   pub says : r.refusal ≡ bytes_refusal L s
   pub accepted : r.refusal ≡ 0 → BytesAccepted L s r
-  pub kept : r.refusal ≡ 0 → Kept
+  pub kept : r.refusal ≡ 0 → RecordsKept s t r
 
 -- Records in a table that can be made a program, of so many atoms.
 pub record Expands (t : Records) (r : SheetNumbers) : Type 0 where
@@ -48,15 +47,11 @@ pub record GraphArrays (es ns ss : List ℕ) : Type 0 where
 unfoldable pub sizes_refusal : Limits → ℕ → ℕ → ℕ
 sizes_refusal L n largest = ask (leb largest L.component) 7 then ask (leb n L.taken.atoms && leb largest L.taken.component) 15
 
--- The questions about the graph of a program, with its edges, names and sets.
-pub record GraphChecked (L : Limits) (P : Program) (es cs ss : List ℕ) (r : ℕ) : Type 0 where
-  pub says : r ≡ graph_refusal L P
-  pub edged : EdgesOf P es
-  pub graph : ComponentsOf P cs ss
-
--- Of every program of n atoms with these edges.
-pub record ComponentsChecked (L : Limits) (n : ℕ) (es cs ss : List ℕ) (r : ℕ) : Type 0 where
-  pub is : (P : Program) → well_formed P ≡ true → P.atoms ≡ n → EdgesOf P es → GraphChecked L P es cs ss r
+-- The questions about the graph of records over n written atoms, with its edges, names and sets.
+pub record GraphChecked (L : Limits) (n : ℕ) (rs : List Record) (es cs ss : List ℕ) (r : ℕ) : Type 0 where
+  pub says : r ≡ graph_refusal L (program_of n rs)
+  pub edged : EdgesOf (program_of n rs) es
+  pub graph : ComponentsOf (program_of n rs) cs ss
 
 -- A sheet that is not refused, with its components' names and sets.
 pub record SheetAccepted (L : Limits) (s names sets : List ℕ) (r : SheetNumbers) : Type 0 where

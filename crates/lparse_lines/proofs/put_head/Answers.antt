@@ -1,0 +1,28 @@
+-- `lparse_lines::put_head` meets its contract, one law for each way through it.
+use borrow.Author.Rules.{rules}
+use Rattle.lparse_lines.proofs.Lines.{constraint_fits, choice_fits, rule_fits, choice_behind, rule_behind, wrote_constraint, wrote_choice, wrote_rule}
+use Rattle.lparse_lines.proofs.put_head.Goals as goal
+
+pub put_text-requires : goal.put_text-requires
+put_text-requires c = search (rules, constraint_fits)
+
+pub returns-then-kind-eq1 : goal.returns-then-kind-eq1
+returns-then-kind-eq1 c = search (rules, wrote_constraint)
+
+pub put_text-a-requires : goal.put_text-a-requires
+put_text-a-requires c = search (rules, choice_fits)
+
+pub put_field-requires : goal.put_field-requires
+put_field-requires c = (search rules, search (rules, choice_behind))
+
+pub returns-then-kind-eq2 : goal.returns-then-kind-eq2
+returns-then-kind-eq2 c = search (rules, wrote_choice)
+
+pub put_text-a-requires-2 : goal.put_text-a-requires-2
+put_text-a-requires-2 c = search (rules, rule_fits)
+
+pub put_field-requires-2 : goal.put_field-requires-2
+put_field-requires-2 c = (search rules, search (rules, rule_behind))
+
+pub returns : goal.returns
+returns c = search (rules, wrote_rule)

@@ -1,0 +1,20 @@
+-- `text::put_refused` meets its contract, one law for each way through it.
+use native.Mathlib.Omega.{arith}
+use Rattle.text.proofs.Digits.{decimal_wide}
+use Rattle.text.proofs.Lines.{wrote_refused}
+use Rattle.text.proofs.put_refused.Goals as goal
+
+pub put_decimal-b-requires : goal.put_decimal-b-requires
+put_decimal-b-requires c = omega (arith, decimal_wide _ c.ranges.refusal)
+
+pub put_text-requires : goal.put_text-requires
+put_text-requires c =
+    let c1 = c in
+    omega (arith, decimal_wide _ c1.ranges.refusal)
+
+pub returns : goal.returns
+returns c =
+    let c1 = c in
+    let c2 = c1 in
+    let c3 = c2 in
+    wrote_refused _ _ _ _ _ _ _ _ c3.put_text-a.ensures c2.put_decimal-b.ensures c1.put_text.ensures

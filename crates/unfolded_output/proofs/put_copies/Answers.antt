@@ -1,0 +1,35 @@
+-- `unfolded_output::put_copies` meets its contract, one law for each way through it.
+use Prim.Native.Nat.{◌-◌}
+use borrow.Author.Rules.{rules}
+use Rattle.copies.proofs.Going.{ready_below}
+use Rattle.copies.proofs.Emitting.{emitting_latest, emitting_entry, emitting_highest}
+use Rattle.unfolded_output.proofs.Whole.{copies_start, copies_ready, copies_turn, copies_length, copies_end}
+use Rattle.unfolded_output.proofs.put_copies.Goals as goal
+
+pub last_places-table-requires : goal.last_places-table-requires
+last_places-table-requires c = search (rules, ready_below)
+
+pub loop-i-init : goal.loop-i-init
+loop-i-init c = search (rules, copies_start)
+
+pub copy_at-entry-requires : goal.copy_at-entry-requires
+copy_at-entry-requires c = search (rules, emitting_entry, emitting_highest)
+
+pub next_copy-step-requires : goal.next_copy-step-requires
+next_copy-step-requires c = search (rules, emitting_latest)
+
+pub put_copy-at-requires : goal.put_copy-at-requires
+put_copy-at-requires c =
+    let step = c in
+    let entry = step in
+    let test = entry in
+    copies_ready _ _ _ _ _ _ _ _ _ _ _ _ _ _ test.loop-i.invariant test.loop-i-test.true _ entry.copy_at-entry.ensures _ _ _ _ step.next_copy-step.ensures
+
+pub loop-i-preserved : goal.loop-i-preserved
+loop-i-preserved c = search (rules, copies_turn)
+
+pub shape_of-out : goal.shape_of-out
+shape_of-out c = search (rules, copies_length)
+
+pub returns : goal.returns
+returns c = search (rules, copies_end)
