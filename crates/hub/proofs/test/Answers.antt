@@ -1,0 +1,12 @@
+-- `hub::test` meets its contract, one law for each way through it.
+use borrow.Author.Rules.{rules}
+use mathlib.Core.Path.{refl}
+use Rattle.operations.proofs.Requirements.{table_for}
+use Rattle.hub.specs.Hub.{hub}
+use Rattle.hub.proofs.test.Goals as goal
+
+pub test-requires : goal.test-requires
+test-requires c = (search rules, table_for _ hub 16 _ c.limits.ensures.0 refl (search rules))
+
+pub returns : goal.returns
+returns c = rw c.limits.ensures.0 at c.test.ensures
