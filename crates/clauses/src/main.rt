@@ -1,6 +1,6 @@
 // A sheet and a sequence on standard input; out come their clauses as DIMACS CNF text, or the refusal.
 #![tactic(auto)]
-ghost use Rattle.std.specs.Prelude.{◌≤◌, length, take};
+ghost use Rattle.std.specs.Prelude.{◌≤◌, length, take, IfOk};
 ghost use Rattle.dimacs.specs.Text.{sheet_of, sequence_of};
 ghost use Rattle.operations.specs.Outcome.{from_clauses};
 ghost use Rattle.operations.specs.Calls.{integers, Promised};
@@ -9,7 +9,10 @@ ghost use Rattle.office.specs.Office.{office};
 ghost use Rattle.clauses.specs.Printed.{Prints};
 
 use dimacs::{put_dimacs, sheet_end};
+use input::read_full;
 use operations::ClausesAnswer;
+use std::io;
+use std::io::{Read, Write};
 use text::put_refused;
 
 // Writes the clauses of the input's sheet and sequence.
@@ -37,17 +40,17 @@ fn answer(buffer: &mut [u8], n: usize) -> usize
     }
 }
 
-// The first 65,536 bytes of standard input, at the beginning of the buffer. Answers how many they are.
-fn read_input(buffer: &mut [u8]) -> usize
+// The first 65,536 bytes of the input, at the beginning of the buffer. Answers how many they are; a read that fails is handed on as it is.
+fn read_input<R: Read>(reader: &mut R, buffer: &mut [u8]) -> io::Result<usize>
     requires { 65536 ≤ length buffer.old }
-    ensures { result ≤ length buffer.new }
+    ensures { IfOk result (λ n. n ≤ length buffer.new) }
 {
-    io::read_full(0, &mut buffer[0..65536])
+    read_full(reader, &mut buffer[0..65536])
 }
 
-fn main() {
+fn main(rt: HostRuntime) -> io::Result<()> {
     let mut buffer = [0u8; 98352];
-    let n = read_input(&mut buffer);
+    let n = read_input(&mut rt.reader(), &mut buffer)?;
     let k = answer(&mut buffer, n);
-    io::write_all(1, &buffer[0..k]);
+    io::writer(&rt).write_all(&buffer[0..k])
 }

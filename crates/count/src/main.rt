@@ -1,37 +1,34 @@
 // A sheet on standard input, one line out: the number of stable models and the verdict, or the refusal.
 #![tactic(auto)]
-use io::{print_decimal, write_all};
-use operations::{CountAnswer, Verdict};
 
-fn print_verdict(v: Verdict) -> bool {
+use input::read_full;
+use operations::{CountAnswer, Verdict};
+use std::io;
+use std::io::Print;
+
+fn print_verdict(rt: &impl Print, v: Verdict) -> io::Result<()> {
     match v {
-        Verdict::None => write_all(1, b" none\n"),
-        Verdict::Clear => write_all(1, b" clear\n"),
-        Verdict::Split => write_all(1, b" split\n"),
+        Verdict::None => println!(rt; " none"),
+        Verdict::Clear => println!(rt; " clear"),
+        Verdict::Split => println!(rt; " split"),
     }
 }
 
-fn print_counted(states: u64, v: Verdict) -> bool {
-    print_decimal(1, states);
-    print_verdict(v)
+fn print_counted(rt: &impl Print, states: u64, v: Verdict) -> io::Result<()> {
+    print!(rt; "{states}")?;
+    print_verdict(rt, v)
 }
 
-fn print_refused(refusal: u32) -> bool {
-    write_all(1, b"refused ");
-    print_decimal(1, refusal as u64);
-    write_all(1, b"\n")
+fn print_refused(rt: &impl Print, refusal: u32) -> io::Result<()> {
+    println!(rt; "refused {refusal}")
 }
 
-fn main() {
-    let mut input = io::large_buffer();
-    let n = io::read_full(0, &mut input);
+fn main(rt: HostRuntime) -> io::Result<()> {
+    let mut input = [0u8; 65536];
+    let n = read_full(&mut rt.reader(), &mut input)?;
     let answer = office::count(&input[..n]);
     match answer {
-        CountAnswer::Refused(refusal) => {
-            print_refused(refusal);
-        }
-        CountAnswer::Counted(states, v) => {
-            print_counted(states, v);
-        }
+        CountAnswer::Refused(refusal) => print_refused(&rt, refusal),
+        CountAnswer::Counted(states, v) => print_counted(&rt, states, v),
     }
 }

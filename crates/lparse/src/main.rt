@@ -3,7 +3,10 @@
 ghost use Rattle.std.specs.Prelude.{◌≡◌, length};
 ghost use Rattle.lparse.specs.Printed.{Prints};
 
+use input::read_full;
 use operations::WriteAnswer;
+use std::io;
+use std::io::Write;
 use text::put_refused;
 
 // The text for an input, at the beginning of the buffer. Answers how long it is.
@@ -18,10 +21,10 @@ fn answer(input: &[u8], text: &mut [u8]) -> usize
     }
 }
 
-fn main() {
-    let mut input = io::large_buffer();
-    let n = io::read_full(0, &mut input);
-    let mut text = io::large_buffer();
+fn main(rt: HostRuntime) -> io::Result<()> {
+    let mut input = [0u8; 65536];
+    let n = read_full(&mut rt.reader(), &mut input)?;
+    let mut text = [0u8; 65536];
     let k = answer(&input[0..n], &mut text);
-    io::write_all(1, &text[0..k]);
+    io::writer(&rt).write_all(&text[0..k])
 }

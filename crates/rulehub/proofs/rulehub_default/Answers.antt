@@ -1,0 +1,7 @@
+-- `rulehub::rulehub_default` meets its contract: its answer is stored.
+use borrow.Author.Rules.{rules}
+use Rattle.interface.proofs.Returning.{returned}
+use Rattle.rulehub.proofs.rulehub_default.Goals as goal
+
+pub returns : goal.returns
+returns c = search (rules, returned)

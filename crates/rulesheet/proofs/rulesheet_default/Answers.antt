@@ -1,0 +1,7 @@
+-- `rulesheet::rulesheet_default` meets its contract: its answer is stored.
+use borrow.Author.Rules.{rules}
+use Rattle.interface.proofs.Returning.{returned}
+use Rattle.rulesheet.proofs.rulesheet_default.Goals as goal
+
+pub returns : goal.returns
+returns c = search (rules, returned)

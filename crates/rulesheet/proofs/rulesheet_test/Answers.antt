@@ -1,0 +1,7 @@
+-- `rulesheet::rulesheet_test` meets its contract: its answer is stored.
+use borrow.Author.Rules.{rules}
+use Rattle.interface.proofs.Returning.{returned}
+use Rattle.rulesheet.proofs.rulesheet_test.Goals as goal
+
+pub returns : goal.returns
+returns c = search (rules, returned)
