@@ -1,5 +1,6 @@
 // Sets of atoms below 64 in a u64: atom a is in the set where digit a of the number is 1.
 #![tactic(auto)]
+
 ghost use Rattle.std.specs.Prelude.{◌≡◌, true, ◌+◌, ◌≤◌, ◌<◌, length};
 ghost use Rattle.bits.specs.inner.Sets.{has, With, WithIf, Without, ByteAt, Gathered, Subset, Both, Either, Difference, Size};
 ghost use Rattle.bits.specs.inner.Listed.{Listing};

@@ -1,5 +1,6 @@
 // Showing a record's body: its number of positive atoms, its place, and its slice of the sheet.
 #![tactic(auto)]
+
 ghost use Rattle.std.specs.Prelude.{◌≡◌, ◌<◌};
 ghost use Rattle.sheet.specs.inner.Walk.{Walk};
 ghost use Rattle.operations.specs.Outcome.{from_body};

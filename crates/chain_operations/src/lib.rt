@@ -1,5 +1,6 @@
 // The operations on the chains of a sheet: testing a sequence, and finding the chain that it lacks.
 #![tactic(auto)]
+
 ghost use Rattle.operations.specs.Outcome.{from_test, from_write};
 ghost use Rattle.operations.specs.Calls.{nothing, naturals, Promised};
 ghost use Rattle.operations.specs.Calls as call;

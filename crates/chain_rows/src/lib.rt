@@ -1,5 +1,6 @@
 // The rows of the table over the sets of a component's atoms: what an entry of the sequence changes in them.
 #![tactic(auto)]
+
 ghost use Rattle.std.specs.Prelude.{◌≡◌, true, ◌≤◌, ◌<◌, length, get_or};
 ghost use Rattle.bits.specs.inner.Sets.{has};
 ghost use Rattle.bits.specs.inner.Listed.{Low};

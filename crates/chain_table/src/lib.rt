@@ -1,5 +1,6 @@
 // The table over the sets of a component's atoms: filled by one pass over the sequence, from its last entry to its first.
 #![tactic(auto)]
+
 ghost use Rattle.std.specs.Prelude.{◌≡◌, true, ◌≤◌, length, drop};
 ghost use Rattle.lists.specs.Lists.{below};
 ghost use Rattle.bits.specs.inner.Listed.{Low};

@@ -1,5 +1,6 @@
 // The chain question: the table of each component, filled by the sequence, says whether all its chains are found.
 #![tactic(auto)]
+
 ghost use Rattle.std.specs.Prelude.{◌≡◌, true, ◌≤◌, length, drop};
 ghost use Rattle.lists.specs.Lists.{below};
 ghost use Rattle.bits.specs.inner.Sets.{Gathered};

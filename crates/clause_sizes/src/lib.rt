@@ -1,5 +1,6 @@
 // How many words, variables and clauses there are.
 #![tactic(auto)]
+
 ghost use Rattle.program.specs.inner.Held.{table_of};
 ghost use Rattle.copies.specs.inner.Ready.{Ready, unfolded_in};
 ghost use Rattle.clause_sizes.specs.inner.Numbers.{NumbersOf};

@@ -1,5 +1,6 @@
 // A sheet and a sequence on standard input; out come their clauses as DIMACS CNF text, or the refusal.
 #![tactic(auto)]
+
 ghost use Rattle.std.specs.Prelude.{◌≤◌, length, take, IfOk};
 ghost use Rattle.dimacs.specs.Text.{sheet_of, sequence_of};
 ghost use Rattle.operations.specs.Outcome.{from_clauses};

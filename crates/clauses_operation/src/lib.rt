@@ -1,5 +1,6 @@
 // Writing the clauses of a sheet and a sequence.
 #![tactic(auto)]
+
 ghost use Rattle.operations.specs.Outcome.{from_clauses};
 ghost use Rattle.operations.specs.Calls.{integers, Promised};
 ghost use Rattle.operations.specs.Calls as call;

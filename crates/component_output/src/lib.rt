@@ -1,5 +1,6 @@
 // Writing components' names and the default sequence.
 #![tactic(auto)]
+
 ghost use Rattle.std.specs.Prelude.{◌≡◌, ◌+◌, ◌≤◌, length};
 ghost use Rattle.bits.specs.inner.Visited.{listed};
 ghost use Rattle.writer.specs.inner.Wrote.{Wrote};

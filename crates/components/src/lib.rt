@@ -1,5 +1,6 @@
 // Components of a program's positive dependency graph, from a table of 64 rows closed row by row, and how large they are.
 #![tactic(auto)]
+
 ghost use Rattle.std.specs.Prelude.{◌≡◌, ◌≤◌, ◌<◌, length, replicate};
 ghost use Rattle.components.specs.inner.Reachability.{RowThrough, ClosedBy, ClosedTable};
 ghost use Rattle.components.specs.inner.Reachability.{NameOf, NamedBy, NamesLow, SetsOf, Larger, Largest, GraphOf};

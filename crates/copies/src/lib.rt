@@ -1,5 +1,6 @@
 // Copies of atoms along a sequence: what stands for each atom in the rules of a copy, and which rules are kept for it.
 #![tactic(auto)]
+
 ghost use Rattle.std.specs.Prelude.{true, cond, ◌≡◌, ◌+◌, ◌≤◌, ◌<◌, length};
 ghost use Rattle.lists.specs.Lists.{below};
 ghost use Rattle.unfolding.specs.Unfolded.{last};

@@ -1,5 +1,6 @@
 // Writing the words of one copy in the unfolded program.
 #![tactic(auto)]
+
 ghost use Rattle.std.specs.Prelude.{◌+◌, ◌≤◌, length};
 ghost use Rattle.unfolding.specs.Unfolded.{last};
 ghost use Rattle.writer.specs.inner.Wrote.{Wrote};

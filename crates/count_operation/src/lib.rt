@@ -1,5 +1,6 @@
 // Counting the stable models of a sheet.
 #![tactic(auto)]
+
 ghost use Rattle.std.specs.Prelude.{◌≡◌};
 ghost use Rattle.asp.specs.Count.{verdict};
 ghost use Rattle.operations.specs.Outcome.{from_verdict, from_count};

@@ -1,6 +1,7 @@
 // The stable models of a sheet's program, counted over its records: a choice rule is a free rule, which applies only in states that hold
 // its head, so no fresh atom is looked at.
 #![tactic(auto)]
+
 ghost use Rattle.std.specs.Prelude.{◌≡◌, ◌≤◌, ◌<◌, length};
 ghost use Rattle.bits.specs.inner.Visited.{listed};
 ghost use Rattle.reader.specs.inner.Tabled.{ExactSets};

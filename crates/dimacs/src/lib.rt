@@ -1,5 +1,6 @@
 // The clause program's input and text: where the sheet ends, and DIMACS CNF.
 #![tactic(auto)]
+
 ghost use Rattle.std.specs.Prelude.{◌++◌, ◌≡◌, ◌+◌, ◌≤◌, nat_abs, length};
 ghost use Rattle.writer.specs.inner.Wrote.{Wrote};
 ghost use Rattle.dimacs.specs.Text.{header_text};

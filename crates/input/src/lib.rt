@@ -1,5 +1,6 @@
 // Reading a stream into a buffer until the buffer is full.
 #![tactic(auto)]
+
 ghost use Rattle.std.specs.Prelude.{◌≤◌, length, IfOk};
 
 use std::io;

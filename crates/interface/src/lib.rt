@@ -1,5 +1,6 @@
 // What a C interface does with an answer: it stores its numbers and returns 0, or it returns the number of the refusal.
 #![tactic(auto)]
+
 ghost use Rattle.std.specs.Prelude.{◌≡◌, ◌∷◌, [], ◌≤◌};
 ghost use Rattle.operations.specs.Outcome.{code, from_verdict, from_read, from_write, from_test, from_clauses, from_count};
 ghost use Rattle.interface.specs.Exported.{Stores, shown};

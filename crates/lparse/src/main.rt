@@ -1,5 +1,6 @@
 // A sheet on standard input; out comes its text for the usual solvers, or the refusal.
 #![tactic(auto)]
+
 ghost use Rattle.std.specs.Prelude.{◌≡◌, length};
 ghost use Rattle.lparse.specs.Printed.{Prints};
 

@@ -1,5 +1,6 @@
 // Writing one line of lparse text: the rule of a record.
 #![tactic(auto)]
+
 ghost use Rattle.std.specs.Prelude.{◌+◌, ◌≤◌, ◌<◌, length};
 ghost use Rattle.writer.specs.inner.Wrote.{Wrote};
 ghost use Rattle.lparse_format.specs.Text.{field_text};

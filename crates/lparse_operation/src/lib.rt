@@ -1,5 +1,6 @@
 // Writing a sheet as lparse text.
 #![tactic(auto)]
+
 ghost use Rattle.operations.specs.Outcome.{from_write};
 ghost use Rattle.operations.specs.Calls.{naturals, Promised};
 ghost use Rattle.operations.specs.Calls as call;

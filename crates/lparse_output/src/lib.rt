@@ -1,5 +1,6 @@
 // Writing lparse text: the lines of the records, the symbol table, and what stands behind it.
 #![tactic(auto)]
+
 ghost use Rattle.std.specs.Prelude.{◌+◌, ◌≤◌, ◌<◌, length};
 ghost use Rattle.writer.specs.inner.Wrote.{Wrote};
 ghost use Rattle.lparse_lines.specs.inner.Lines.{records_text, symbol_line, symbols_text, whole_text};

@@ -1,5 +1,6 @@
 // How long lparse text is, before it is written.
 #![tactic(auto)]
+
 ghost use Rattle.std.specs.Prelude.{◌≡◌, ◌≤◌, ◌<◌, length};
 ghost use Rattle.bits.specs.inner.Sets.{Size};
 ghost use Rattle.lparse_lines.specs.inner.Lines.{head_text, body_text, records_text, symbol_line, symbols_text, whole_text};

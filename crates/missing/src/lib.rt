@@ -1,5 +1,6 @@
 // The shortest chain that a sequence lacks, written atom by atom from its start.
 #![tactic(auto)]
+
 ghost use Rattle.std.specs.Prelude.{◌≡◌, true, ◌+◌, ◌≤◌, ◌<◌, length, drop};
 ghost use Rattle.lists.specs.Lists.{below};
 ghost use Rattle.bits.specs.inner.Listed.{Low, RisesTo};

@@ -1,5 +1,6 @@
 // The places from which a chain is missing, by the table over the sets of a component's atoms.
 #![tactic(auto)]
+
 ghost use Rattle.std.specs.Prelude.{◌<◌, length};
 ghost use Rattle.missing_places.specs.inner.Lacking.{LackingIn, Lacking, Shortest};
 

@@ -1,5 +1,6 @@
 // Where the shortest missing chain of a program starts, component by component.
 #![tactic(auto)]
+
 ghost use Rattle.std.specs.Prelude.{◌≡◌, true, ◌≤◌, length, drop};
 ghost use Rattle.lists.specs.Lists.{below};
 ghost use Rattle.bits.specs.inner.Sets.{Gathered};

@@ -1,5 +1,6 @@
 // The public operations, with the office's limits. Each takes any bytes and finishes.
 #![tactic(auto)]
+
 ghost use Rattle.std.specs.Prelude.{◌≡◌};
 ghost use Rattle.operations.specs.Outcome.{from_read, from_body, from_write, from_test, from_clauses, from_count};
 ghost use Rattle.operations.specs.Calls.{nothing, naturals, integers, Promised};

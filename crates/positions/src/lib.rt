@@ -1,5 +1,6 @@
 // Positions in a sequence of at most 640 entries.
 #![tactic(auto)]
+
 ghost use Rattle.positions.specs.inner.Positions.{Position, Behind};
 
 use bits::wide;

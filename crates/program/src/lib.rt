@@ -1,5 +1,6 @@
 // A program as a table: the rules of its entries come first, in sheet order, and behind them the constraints.
 #![tactic(auto)]
+
 ghost use Rattle.std.specs.Prelude.{◌≡◌, ◌<◌};
 ghost use Rattle.program.specs.inner.Held.{table_rule};
 

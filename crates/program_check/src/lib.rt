@@ -1,5 +1,6 @@
 // The questions about a sheet and a sequence, and the table of the sheet's program behind them.
 #![tactic(auto)]
+
 ghost use Rattle.std.specs.Prelude.{◌≡◌, ◌≤◌, length};
 ghost use Rattle.program.specs.inner.Held.{table_of};
 ghost use Rattle.components.specs.inner.Reachability.{NamesLow};

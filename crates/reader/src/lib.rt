@@ -1,5 +1,6 @@
 // Reading a sheet, in one pass that asks questions 1 to 6 and gathers its records into a table.
 #![tactic(auto)]
+
 ghost use Rattle.std.specs.Prelude.{◌≡◌, ◌≤◌, length};
 ghost use Rattle.sheet.specs.inner.Walk.{Complete};
 ghost use Rattle.reader.specs.inner.Tabled.{ListRead, ListsRead, EntryRead, HeaderRead, RecordsRead};

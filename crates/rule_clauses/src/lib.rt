@@ -1,5 +1,6 @@
 // Writing the clauses of one rule.
 #![tactic(auto)]
+
 ghost use Rattle.std.specs.Prelude.{[], ◌∷◌, ◌+◌, ◌≤◌, ◌<◌, length};
 ghost use Rattle.unfolding.specs.Unfolded.{last};
 ghost use Rattle.unfolding.specs.Clauses.{signed, clause_words};

@@ -1,6 +1,7 @@
 // The hub's operations for C and Rust: include/rulehub.h declares them. What each promises is
 // `Returned` of interface/specs/Seen.antt at its call.
 #![tactic(auto)]
+
 ghost use Rattle.std.specs.Prelude.{◌∷◌, []};
 ghost use Rattle.operations.specs.Calls.{nothing, naturals, integers};
 ghost use Rattle.operations.specs.Calls as call;

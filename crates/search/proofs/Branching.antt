@@ -17,7 +17,7 @@ use Rattle.lists.proofs.Nodup.{nodup_cons, nodup_filter, nodup_same}
 use Rattle.asp.specs.Program.{Body, State, outside, holds}
 use Rattle.asp.specs.LeastModel.{Definite, consequences, least_model, Inside}
 use Rattle.asp.specs.Least.{Least}
-use Rattle.asp.specs.StableModel.{definite, lawful}
+use Rattle.asp.specs.StableModel.{definite}
 use Rattle.asp.specs.Count.{with, states}
 use Rattle.search.specs.inner.Decided.{CountRule, definites, applies, is_stable_by, agrees, surely, possibly, count_by}
 use Rattle.asp.proofs.Rounds.{Operator, iterate_least, iterate_below}

@@ -1,5 +1,6 @@
 // The questions about a sequence.
 #![tactic(auto)]
+
 ghost use Rattle.std.specs.Prelude.{◌≡◌, ◌≤◌, length};
 ghost use Rattle.chains.specs.inner.Components.{Small};
 ghost use Rattle.sequence_check.specs.inner.Checked.{entries_refusal, SequenceChecked};

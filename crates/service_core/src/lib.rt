@@ -1,5 +1,6 @@
 // The operations, with their limits as parameters: all that the services stand on. Each is proved in a crate of its own.
 #![tactic(auto)]
+
 ghost use Rattle.operations.specs.Outcome.{from_read, from_body, from_write, from_test, from_clauses, from_count};
 ghost use Rattle.operations.specs.Calls.{nothing, naturals, integers, Promised};
 ghost use Rattle.operations.specs.Calls as call;

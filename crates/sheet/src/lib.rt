@@ -1,5 +1,6 @@
 // The bytes of records and of sequences: questions 4, 5 and 8, and walking from record to record.
 #![tactic(auto)]
+
 ghost use Rattle.std.specs.Prelude.{◌≡◌, true, ◌+◌, ◌≤◌, ◌<◌, length};
 ghost use Rattle.sheet.specs.Format.{complete, kind_fits, kind_passes, end};
 ghost use Rattle.sheet.specs.inner.Walk.{Complete, Walk, Stepped};

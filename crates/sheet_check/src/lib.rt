@@ -1,5 +1,6 @@
 // The questions about a sheet, in two steps: those about its bytes and records, then those about the graph of its records.
 #![tactic(auto)]
+
 ghost use Rattle.std.specs.Prelude.{◌≡◌, length};
 ghost use Rattle.translation.specs.inner.Records.{held, records_in};
 ghost use Rattle.operations.specs.Requirements.{Supported};

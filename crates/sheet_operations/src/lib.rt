@@ -1,5 +1,6 @@
 // The operations on a sheet alone: reading it, finding its components, and its default sequence.
 #![tactic(auto)]
+
 ghost use Rattle.std.specs.Prelude.{◌≤◌, length};
 ghost use Rattle.writer.specs.inner.Wrote.{Wrote};
 ghost use Rattle.operations.specs.Outcome.{from_read, from_write};

@@ -1,5 +1,6 @@
 // Where a missing chain starts: in one component, by its table over sets, and the earlier of two.
 #![tactic(auto)]
+
 ghost use Rattle.std.specs.Prelude.{◌≡◌, true, ◌≤◌, length, drop};
 ghost use Rattle.lists.specs.Lists.{below};
 ghost use Rattle.bits.specs.inner.Visited.{listed};

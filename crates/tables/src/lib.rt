@@ -1,6 +1,7 @@
 // The two arrays that operations lend each other: a sheet's records, and the entries of its program. What they hold is read and stored
 // here alone.
 #![tactic(auto)]
+
 ghost use Rattle.std.specs.Prelude.{◌≡◌, ◌<◌, length};
 ghost use Rattle.lists.specs.Rows.{Stored};
 ghost use Rattle.tables.specs.inner.Rows.{row_at, entry_at};

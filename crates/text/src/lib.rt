@@ -1,5 +1,6 @@
 // Text in a lent buffer that has room: numbers in decimal, and the line of a refusal.
 #![tactic(auto)]
+
 ghost use Rattle.std.specs.Prelude.{◌+◌, ◌≤◌, ◌<◌, length};
 ghost use Rattle.writer.specs.inner.Wrote.{Wrote};
 ghost use Rattle.text.specs.Text.{decimal, refused_text};

@@ -1,5 +1,6 @@
 // How many rules and constraints the unfolded program has, and how many atoms stand in their bodies.
 #![tactic(auto)]
+
 ghost use Rattle.std.specs.Prelude.{◌≡◌, ◌≤◌};
 ghost use Rattle.program.specs.inner.Held.{table_of};
 ghost use Rattle.copies.specs.inner.Bodies.{body_atoms};

@@ -1,5 +1,6 @@
 // What the records of a sheet stand for: the number of choice rules, the edges of the program's graph, and the program itself.
 #![tactic(auto)]
+
 ghost use Rattle.std.specs.Prelude.{cond, ◌≡◌, suc, ◌≤◌, ◌<◌, eqb, length, replicate};
 ghost use Rattle.program.specs.inner.Held.{table_of};
 ghost use Rattle.sheet.specs.Sheet.{record_rules};

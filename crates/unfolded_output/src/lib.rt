@@ -1,5 +1,6 @@
 // Writing the unfolded program's words.
 #![tactic(auto)]
+
 ghost use Rattle.std.specs.Prelude.{◌+◌, ◌≤◌, length};
 ghost use Rattle.unfolding.specs.Unfolded.{last, words};
 ghost use Rattle.program.specs.inner.Held.{table_of};

@@ -1,5 +1,6 @@
 // How many words the unfolded program has.
 #![tactic(auto)]
+
 ghost use Rattle.std.specs.Prelude.{◌≡◌, length};
 ghost use Rattle.unfolding.specs.Unfolded.{words};
 ghost use Rattle.program.specs.inner.Held.{table_of};

@@ -9,7 +9,7 @@ use native.Mathlib.Nat.{le_antisymm}
 use native.Mathlib.Omega.{arith}
 use borrow.Author.Tests.{eqb-true, eq-eqb}
 use lib.Dec.{eqb}
-use Rattle.lists.specs.Lists.{all, any, member, range}
+use Rattle.lists.specs.Lists.{any, member, range}
 use Rattle.lists.proofs.Bools.{by_bool, true_false, bool_ext, and_intro, and_left, and_right, or_cases, or_left, or_right}
 use Rattle.lists.proofs.Members.{any_at, any_intro, member_in, range_in, range_out}
 use Rattle.asp.specs.Program.{Rule, Program, State, well_formed}

@@ -1,5 +1,6 @@
 // Writing into a lent buffer that has room.
 #![tactic(auto)]
+
 ghost use Rattle.std.specs.Prelude.{[], ◌∷◌, ◌<◌, pos, neg_ℤ, length};
 ghost use Rattle.writer.specs.inner.Wrote.{Wrote};
 

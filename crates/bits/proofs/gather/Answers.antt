@@ -1,5 +1,4 @@
 -- `bits::gather` meets its contract, one law for each way through it.
-use Prim.Native.Nat.{◌-◌}
 use borrow.Author.Rules.{rules}
 use Rattle.bits.proofs.Gathering.{gathering_start, gathering_low, gathering_turn, gathering_end}
 use Rattle.bits.proofs.gather.Goals as goal

@@ -1,5 +1,4 @@
 -- `body_words::put_eight` meets its contract, one law for each way through it.
-use Prim.Native.Nat.{◌-◌}
 use borrow.Author.Rules.{rules}
 use Rattle.body_words.proofs.Body.{eight_start, eight_room, eight_turn, eight_length, eight_end}
 use Rattle.body_words.proofs.put_eight.Goals as goal

@@ -1,5 +1,4 @@
 -- `chain_rows::followers` meets its contract, one law for each way through it.
-use Prim.Native.Nat.{◌-◌}
 use borrow.Author.Rules.{rules}
 use Rattle.chain_rows.proofs.Places.{following_start, following_turn, following_end, atom_low}
 use Rattle.chain_rows.proofs.followers.Goals as goal

@@ -1,5 +1,4 @@
 -- `chain_rows::place_of` meets its contract, one law for each way through it.
-use Prim.Native.Nat.{◌-◌}
 use borrow.Author.Rules.{rules}
 use Rattle.chain_rows.proofs.Places.{absent_start, absent_turn, place_found, place_absent}
 use Rattle.chain_rows.proofs.place_of.Goals as goal

@@ -1,5 +1,4 @@
 -- `chain_rows::step` meets its contract, one law for each way through it.
-use Prim.Native.Nat.{◌-◌}
 use native.Mathlib.Omega.{arith}
 use Rattle.chain_rows.proofs.Rows.{stepping_start, stepping_turn, stepping_end}
 use borrow.Author.Rules.{rules}

@@ -1,5 +1,4 @@
 -- `chain_table::clear` meets its contract, one law for each way through it.
-use Prim.Native.Nat.{◌-◌}
 use native.Mathlib.Omega.{arith}
 use Rattle.chain_table.proofs.Filling.{cleared_start, cleared_turn, cleared_end}
 use borrow.Author.Rules.{rules}

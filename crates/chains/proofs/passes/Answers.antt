@@ -1,5 +1,4 @@
 -- `chains::passes` meets its contract, one law for each way through it.
-use Prim.Native.Nat.{◌-◌}
 use borrow.Author.Tests.{not-true, not-false}
 use Rattle.lists.proofs.Members.{below_more}
 use Rattle.chains.proofs.Components.{asking_start, asking_turn, asking_fails, asking_end, component_roomy, entries_low, entries_gathered}

@@ -1,5 +1,4 @@
 -- `clause_output::put_backs` meets its contract, one law for each way through it.
-use Prim.Native.Nat.{◌-◌}
 use borrow.Author.Rules.{rules}
 use Rattle.rule_clauses.proofs.Signs.{last_small}
 use Rattle.clause_output.proofs.Backs.{backs_start, backs_room, backs_turn, backs_length, backs_end}

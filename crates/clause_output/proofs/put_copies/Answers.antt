@@ -1,5 +1,4 @@
 -- `clause_output::put_copies` meets its contract, one law for each way through it.
-use Prim.Native.Nat.{◌-◌}
 use borrow.Author.Rules.{rules}
 use Rattle.copies.proofs.Going.{ready_below}
 use Rattle.copies.proofs.Emitting.{emitting_latest, emitting_entry, emitting_highest}

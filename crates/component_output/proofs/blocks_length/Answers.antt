@@ -1,6 +1,5 @@
 use borrow.Author.Rules.{rules}
 use Rattle.component_output.proofs.Loops.{adding_start, adding_turn, adding_end}
-use Prim.Native.Nat.{◌-◌}
 use Rattle.component_output.proofs.blocks_length.Goals as goal
 
 pub loop-c-init : goal.loop-c-init

@@ -1,7 +1,6 @@
 use borrow.Author.Rules.{rules}
 use Rattle.component_output.proofs.Loops.{blocks_room, blocks_wrote}
 use Rattle.writer.proofs.Loops.{range_start, range_turn, range_length}
-use Prim.Native.Nat.{◌-◌}
 use Rattle.component_output.proofs.put_blocks.Goals as goal
 
 pub loop-c-init : goal.loop-c-init

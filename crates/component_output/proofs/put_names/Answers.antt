@@ -1,7 +1,6 @@
 use borrow.Author.Rules.{rules}
 use Rattle.component_output.proofs.Loops.{names_room, names_end}
 use Rattle.writer.proofs.Loops.{range_start, range_turn, range_length}
-use Prim.Native.Nat.{◌-◌}
 use Rattle.component_output.proofs.put_names.Goals as goal
 
 pub loop-a-init : goal.loop-a-init

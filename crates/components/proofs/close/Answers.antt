@@ -1,4 +1,3 @@
-use Prim.Native.Nat.{◌-◌}
 use Rattle.components.proofs.Closing.{rounds_start, rounds_turn, rounds_end}
 use borrow.Author.Rules.{rules}
 use Rattle.components.proofs.close.Goals as goal

@@ -1,7 +1,6 @@
 use borrow.Author.Rules.{rules}
 use Rattle.components.proofs.Closing.{closing_start, closing_turn, closing_end}
 use native.Mathlib.Omega.{arith}
-use Prim.Native.Nat.{◌-◌}
 use Rattle.components.proofs.close_by.Goals as goal
 
 pub loop-a-init : goal.loop-a-init

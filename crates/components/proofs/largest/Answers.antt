@@ -1,7 +1,6 @@
 -- `components::largest` meets its contract, one law for each way through it.
 use borrow.Author.Rules.{rules}
 use Rattle.components.proofs.Naming.{growing_start, growing_turn, growing_end}
-use Prim.Native.Nat.{◌-◌}
 use Rattle.components.proofs.largest.Goals as goal
 
 pub loop-c-init : goal.loop-c-init

@@ -1,4 +1,3 @@
-use Prim.Native.Nat.{◌-◌}
 use native.Mathlib.Omega.{arith}
 use Rattle.components.proofs.Naming.{naming_start, naming_turn, naming_end}
 use borrow.Author.Rules.{rules}

@@ -1,4 +1,3 @@
-use Prim.Native.Nat.{◌-◌}
 use Rattle.components.proofs.Naming.{grouping_start, grouping_turn, grouping_end, name_low, name_scale}
 use borrow.Author.Rules.{rules}
 use Rattle.components.proofs.store_sets.Goals as goal

@@ -1,5 +1,4 @@
 -- `copies::kept_rules` meets its contract, one law for each way through it.
-use Prim.Native.Nat.{◌-◌}
 use borrow.Author.Rules.{rules}
 use Rattle.copies.proofs.Keeping.{keeping_start, keeping_turn, keeping_end}
 use Rattle.copies.proofs.kept_rules.Goals as goal

@@ -1,6 +1,5 @@
 -- `copies::kept_rules` meets its contract, one law for each way through it.
 use Prim.Native.Nat.{◌-◌}
-use borrow.Author.Rules.{rules}
 use Rattle.copies.proofs.Keeping.{Keeping}
 use Rattle.copies.proofs.kept_rules.Given as goal
 

@@ -1,5 +1,4 @@
 -- `copies::last_copies` meets its contract, one law for each way through it.
-use Prim.Native.Nat.{◌-◌}
 use borrow.Author.Rules.{rules}
 use Rattle.copies.proofs.Tables.{filling_start, filling_turn, filling_end}
 use Rattle.copies.proofs.last_copies.Goals as goal

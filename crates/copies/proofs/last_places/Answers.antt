@@ -1,5 +1,4 @@
 -- `copies::last_places` meets its contract, one law for each way through it.
-use Prim.Native.Nat.{◌-◌}
 use borrow.Author.Rules.{rules}
 use Rattle.copies.proofs.Placing.{placing_start, placing_low, placing_turn, placing_end}
 use Rattle.copies.proofs.last_places.Goals as goal

@@ -1,5 +1,4 @@
 -- `copy_clauses::put_range` meets its contract, one law for each way through it.
-use Prim.Native.Nat.{◌-◌}
 use borrow.Author.Rules.{rules}
 use Rattle.copy_clauses.proofs.Rules.{numbers_start, numbers_room, numbers_turn, numbers_length, numbers_end}
 use Rattle.copy_clauses.proofs.put_range.Goals as goal

@@ -1,5 +1,4 @@
 -- `copy_clauses::put_rules` meets its contract, one law for each way through it.
-use Prim.Native.Nat.{◌-◌}
 use borrow.Author.Rules.{rules}
 use Rattle.copy_clauses.proofs.Rules.{rules_start, rules_variable, rules_room, rules_turn, rules_length, rules_end}
 use Rattle.copy_clauses.proofs.put_rules.Goals as goal

@@ -1,5 +1,4 @@
 -- `copy_words::put_listed` meets its contract, one law for each way through it.
-use Prim.Native.Nat.{◌-◌}
 use borrow.Author.Rules.{rules}
 use Rattle.copy_words.proofs.Copy.{listed_start, listed_room, listed_turn, listed_length, listed_end}
 use Rattle.copy_words.proofs.put_listed.Goals as goal

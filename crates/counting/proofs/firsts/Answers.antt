@@ -1,5 +1,4 @@
 -- `counting::firsts` meets its contract, one law for each way through it.
-use Prim.Native.Nat.{◌-◌}
 use borrow.Author.Rules.{rules}
 use Rattle.counting.proofs.Returning.{meeting_start, meeting_turn, meeting_end}
 use Rattle.counting.proofs.firsts.Goals as goal

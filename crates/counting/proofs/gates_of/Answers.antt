@@ -1,5 +1,4 @@
 -- `counting::gates_of` meets its contract, one law for each way through it.
-use Prim.Native.Nat.{◌-◌}
 use borrow.Author.Rules.{rules}
 use Rattle.counting.proofs.Gating.{gating_start, gating_turn, gating_end}
 use Rattle.counting.proofs.Returning.{head_low}

@@ -1,5 +1,4 @@
 -- `counting::returns_of` meets its contract, one law for each way through it.
-use Prim.Native.Nat.{◌-◌}
 use borrow.Author.Rules.{rules}
 use Rattle.counting.proofs.Returning.{head_low, filling_start, filling_turn, filling_end}
 use Rattle.counting.proofs.returns_of.Goals as goal

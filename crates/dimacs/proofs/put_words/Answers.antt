@@ -1,5 +1,4 @@
 -- `dimacs::put_words` meets its contract, one law for each way through it.
-use Prim.Native.Nat.{◌-◌}
 use borrow.Author.Rules.{rules}
 use Rattle.writer.proofs.Writing.{left_start, left_turn, left_room, left_end, left_length}
 use Rattle.dimacs.proofs.Words.{words_next, words_end}

@@ -1,5 +1,4 @@
 -- `lparse_output::put_records` meets its contract, one law for each way through it.
-use Prim.Native.Nat.{◌-◌}
 use borrow.Author.Rules.{rules}
 use Rattle.lparse_output.proofs.Parts.{records_start, records_room, records_turn, records_length, records_end}
 use Rattle.lparse_output.proofs.put_records.Goals as goal

@@ -1,5 +1,4 @@
 -- `lparse_output::put_symbols` meets its contract, one law for each way through it.
-use Prim.Native.Nat.{◌-◌}
 use borrow.Author.Rules.{rules}
 use Rattle.writer.proofs.Loops.{range_start, range_turn, range_length}
 use Rattle.lparse_output.proofs.Parts.{symbols_room, symbols_end}

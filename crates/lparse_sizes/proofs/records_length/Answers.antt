@@ -1,5 +1,4 @@
 -- `lparse_sizes::records_length` meets its contract, one law for each way through it.
-use Prim.Native.Nat.{◌-◌}
 use borrow.Author.Rules.{rules}
 use Rattle.lparse_sizes.proofs.Lengths.{add_records_start, add_records_turn, add_records_end}
 use Rattle.lparse_sizes.proofs.records_length.Goals as goal

@@ -1,5 +1,4 @@
 -- `lparse_sizes::symbols_length` meets its contract, one law for each way through it.
-use Prim.Native.Nat.{◌-◌}
 use borrow.Author.Rules.{rules}
 use Rattle.lparse_sizes.proofs.Lengths.{add_symbols_start, add_symbols_turn, add_symbols_end}
 use Rattle.lparse_sizes.proofs.symbols_length.Goals as goal

@@ -1,5 +1,4 @@
 -- `missing_places::lacking` meets its contract, one law for each way through it.
-use Prim.Native.Nat.{◌-◌}
 use borrow.Author.Rules.{rules}
 use Rattle.missing_places.proofs.Rows.{below_start, below_turn, below_end}
 use Rattle.missing_places.proofs.lacking.Goals as goal

@@ -1,5 +1,4 @@
 -- `missing_places::shortest` meets its contract, one law for each way through it.
-use Prim.Native.Nat.{◌-◌}
 use borrow.Author.Rules.{rules}
 use Rattle.missing_places.proofs.Rows.{none_start, none_turn, none_end, none_found}
 use Rattle.missing_places.proofs.shortest.Goals as goal

@@ -1,5 +1,4 @@
 -- `missing_start::find_start` meets its contract, one law for each way through it.
-use Prim.Native.Nat.{◌-◌}
 use Rattle.lists.proofs.Members.{below_more}
 use Rattle.chains.proofs.Components.{component_roomy, entries_low, entries_gathered}
 use Rattle.missing_start.proofs.Sofar.{sofar_start, sofar_turn, sofar_end}

@@ -1,5 +1,4 @@
 -- `positions::behind` meets its contract, one law for each way through it.
-use Prim.Native.Nat.{◌-◌}
 use borrow.Author.Rules.{rules}
 use Rattle.positions.proofs.Positions.{passing_start, passing_turn, passing_found, passing_end, position_low}
 use Rattle.positions.proofs.behind.Goals as goal

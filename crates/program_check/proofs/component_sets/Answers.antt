@@ -1,5 +1,4 @@
 -- `program_check::component_sets` meets its contract, one law for each way through it.
-use Prim.Native.Nat.{◌-◌}
 use borrow.Author.Rules.{rules}
 use Rattle.components.proofs.Naming.{name_low, name_scale}
 use Rattle.program_check.proofs.Components.{filling_start, filling_turn, filling_end}

@@ -1,5 +1,4 @@
 -- `reader::gather_list` meets its contract, one law for each way through it.
-use Prim.Native.Nat.{◌-◌}
 use borrow.Author.Rules.{rules}
 use Rattle.reader.proofs.Reading.{reading_start, reading_below, reading_above, reading_turn, reading_end}
 use Rattle.reader.proofs.gather_list.Goals as goal

@@ -1,5 +1,4 @@
 -- `reader::read_records` meets its contract, one law for each way through it.
-use Prim.Native.Nat.{◌-◌}
 use borrow.Author.Rules.{rules}
 use Rattle.reader.proofs.Tabling.{tabling_start, tabling_turn, tabling_refused, tabling_left, tabling_end}
 use Rattle.reader.proofs.read_records.Goals as goal

@@ -1,5 +1,4 @@
 -- `search::lawful` meets its contract, one law for each way through it.
-use Prim.Native.Nat.{◌-◌}
 use borrow.Author.Rules.{rules}
 use Rattle.search.proofs.Constraints.{obeying_start, obeying_turn, obeying_violated, obeying_end}
 use Rattle.search.proofs.lawful.Goals as goal

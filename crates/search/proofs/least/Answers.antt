@@ -1,5 +1,4 @@
 -- `search::least` meets its contract, one law for each way through it.
-use Prim.Native.Nat.{◌-◌}
 use native.Mathlib.Omega.{arith}
 use borrow.Author.Rules.{rules}
 use Rattle.search.proofs.Passes.{passing_start, passing_turn, pass_falls, passing_end}

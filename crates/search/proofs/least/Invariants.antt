@@ -1,6 +1,5 @@
 -- `search::least` meets its contract, one law for each way through it.
 use Prim.Native.Nat.{◌+◌, ◌-◌, ◌*◌, ◌^◌}
-use borrow.Author.Rules.{rules}
 use Rattle.search.proofs.Passes.{Passing}
 use Rattle.search.specs.inner.Rules.{in_arrays}
 use Rattle.search.proofs.least.Given as goal

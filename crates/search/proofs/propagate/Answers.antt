@@ -1,5 +1,4 @@
 -- `search::propagate` meets its contract, one law for each way through it.
-use Prim.Native.Nat.{◌-◌}
 use borrow.Author.Rules.{rules}
 use Rattle.search.proofs.Propagating.{propagating_start, propagating_turn, propagating_end}
 use Rattle.search.proofs.propagate.Goals as goal

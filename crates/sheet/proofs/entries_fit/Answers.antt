@@ -1,5 +1,4 @@
 -- `sheet::entries_fit` meets its contract, one law for each way through it.
-use Prim.Native.Nat.{◌-◌}
 use native.Mathlib.Omega.{arith}
 use borrow.Author.Rules.{rules}
 use Rattle.sheet.proofs.Sequences.{fitting_start, fitting_fails, fitting_turn, fitting_end}

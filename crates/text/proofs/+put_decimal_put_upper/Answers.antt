@@ -1,5 +1,5 @@
 -- `text::put_decimal` and `text::put_upper`, which call each other, meet their contracts.
-use Rattle.std.proofs.Common.{rules, arith}
+use Rattle.std.proofs.Common.{arith}
 use Rattle.text.proofs.Digits.{upper_room, room_1000, room_100, room_10, room_1, wrote_digits, wrote_none, wrote_upper, upper_enough}
 use Rattle.text.proofs.+put_decimal_put_upper.Goals as goal
 

@@ -1,5 +1,4 @@
 -- `text::put_text` meets its contract, one law for each way through it.
-use Prim.Native.Nat.{◌-◌}
 use borrow.Author.Rules.{rules}
 use Rattle.writer.proofs.Writing.{left_start, left_turn, left_end, left_length}
 use Rattle.text.proofs.Loops.{text_next, text_end, text_room}

@@ -1,5 +1,4 @@
 -- `totals::atoms_at` meets its contract, one law for each way through it.
-use Prim.Native.Nat.{◌-◌}
 use borrow.Author.Rules.{rules}
 use Rattle.totals.proofs.Sizing.{adding_start, adding_room, adding_turn, adding_end}
 use Rattle.totals.proofs.atoms_at.Goals as goal

@@ -1,5 +1,4 @@
 -- `totals::body_sizes` meets its contract, one law for each way through it.
-use Prim.Native.Nat.{◌-◌}
 use borrow.Author.Rules.{rules}
 use Rattle.totals.proofs.Sizing.{size_fits, sizing_start, sizing_turn, sizing_end}
 use Rattle.totals.proofs.body_sizes.Goals as goal

@@ -1,6 +1,5 @@
 -- `totals::body_sizes` meets its contract, one law for each way through it.
 use Prim.Native.Nat.{◌-◌}
-use borrow.Author.Rules.{rules}
 use Rattle.totals.proofs.Sizing.{Sizing}
 use Rattle.totals.proofs.body_sizes.Given as goal
 

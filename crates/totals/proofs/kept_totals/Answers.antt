@@ -1,5 +1,4 @@
 -- `totals::kept_totals` meets its contract, one law for each way through it.
-use Prim.Native.Nat.{◌-◌}
 use borrow.Author.Rules.{rules}
 use Rattle.totals.proofs.Totalling.{totalling_start, totalling_atom, totalling_rules, totalling_atoms, totalling_turn, totalling_end}
 use Rattle.totals.proofs.kept_totals.Goals as goal

@@ -1,6 +1,5 @@
 -- `totals::kept_totals` meets its contract, one law for each way through it.
 use Prim.Native.Nat.{◌-◌}
-use borrow.Author.Rules.{rules}
 use lib.ListN.{length}
 use Rattle.program.specs.inner.Held.{table_of}
 use Rattle.totals.proofs.Totalling.{Totalling}

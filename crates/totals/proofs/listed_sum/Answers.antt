@@ -1,5 +1,4 @@
 -- `totals::listed_sum` meets its contract, one law for each way through it.
-use Prim.Native.Nat.{◌-◌}
 use borrow.Author.Rules.{rules}
 use Rattle.totals.proofs.Sizing.{summing_start, summing_room, summing_turn, summing_end}
 use Rattle.totals.proofs.listed_sum.Goals as goal

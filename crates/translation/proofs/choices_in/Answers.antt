@@ -1,5 +1,4 @@
 -- `translation::choices_in` meets its contract, one law for each way through it.
-use Prim.Native.Nat.{◌-◌}
 use borrow.Author.Rules.{rules}
 use Rattle.translation.proofs.Records.{choosing_start, choosing_turn, choosing_small, choosing_end}
 use Rattle.translation.proofs.choices_in.Goals as goal

@@ -1,5 +1,4 @@
 -- `translation::edges_of` meets its contract, one law for each way through it.
-use Prim.Native.Nat.{◌-◌}
 use borrow.Author.Rules.{rules}
 use Rattle.translation.proofs.Linking.{linking_start, linking_fresh, linking_turn, linking_end}
 use Rattle.translation.proofs.edges_of.Goals as goal

@@ -1,5 +1,4 @@
 -- `translation::program_of` meets its contract, one law for each way through it.
-use Prim.Native.Nat.{◌-◌}
 use borrow.Author.Rules.{rules}
 use Rattle.translation.proofs.Appending.{ruling_start, ruling_room, ruling_fresh, ruling_small, ruling_turn, constraining_start, constraining_room, constraining_turn, constraints_behind, all_atoms, translated}
 use Rattle.translation.proofs.program_of.Goals as goal

@@ -1,7 +1,6 @@
 -- `translation::program_of` meets its contract, one law for each way through it.
 use mathlib.Core.Path.{◌≡◌}
 use Prim.Native.Nat.{◌+◌, ◌-◌}
-use borrow.Author.Rules.{rules}
 use Rattle.sheet.specs.Sheet.{choices}
 use Rattle.translation.proofs.Appending.{Ruling, Constraining}
 use Rattle.translation.specs.inner.Records.{held, records_in}

@@ -1,5 +1,4 @@
 -- `unfolded_output::put_entries` meets its contract, one law for each way through it.
-use Prim.Native.Nat.{◌-◌}
 use borrow.Author.Rules.{rules}
 use Rattle.unfolded_output.proofs.Whole.{entries_start, entries_room, entries_turn, entries_length, entries_end}
 use Rattle.unfolded_output.proofs.put_entries.Goals as goal
