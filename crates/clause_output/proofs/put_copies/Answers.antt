@@ -19,10 +19,7 @@ next_copy-step-requires c = search (rules, emitting_latest)
 
 pub put_copy-ends-requires : goal.put_copy-ends-requires
 put_copy-ends-requires c =
-    let step = c in
-    let entry = step in
-    let test = entry in
-    copies_ready _ _ _ _ _ _ _ _ _ _ _ _ _ _ test.loop-i.invariant test.loop-i-test.true _ entry.copy_at-entry.ensures _ _ _ _ step.next_copy-step.ensures
+    copies_ready _ _ _ _ _ _ _ _ _ _ _ _ _ _ c.loop-i.invariant c.loop-i-test.true _ c.copy_at-entry.ensures _ _ _ _ c.next_copy-step.ensures
 
 pub loop-i-preserved : goal.loop-i-preserved
 loop-i-preserved c = search (rules, copies_turn)

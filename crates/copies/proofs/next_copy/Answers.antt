@@ -4,6 +4,4 @@ use Rattle.copies.proofs.next_copy.Goals as goal
 
 pub returns : goal.returns
 returns c =
-    let laid = c in
-    let step = laid in
-    record { selected = step.copy_step-step.ensures; overlaid = laid.overlay.ensures; is_latest = refl }
+    record { selected = c.copy_step-step.ensures; overlaid = c.overlay.ensures; is_latest = refl }

@@ -7,8 +7,7 @@ use Rattle.dimacs.proofs.put_dimacs.Goals as goal
 
 pub put_words-requires : goal.put_words-requires
 put_words-requires c =
-    let c1 = c in
-    omega (arith, header_short _ c1.ranges.variables _ c1.ranges.clauses)
+    omega (arith, header_short _ c.ranges.variables _ c.ranges.clauses)
 
 pub returns : goal.returns
 returns c = search (rules, wrote_append)

@@ -12,8 +12,6 @@ lowest-place-requires c = search (rules, extension_some)
 
 pub returns : goal.returns
 returns c =
-    let c1 = c in
-    let c2 = c1 in
-    let pre = c2.requires in
-    extension_next _ _ _ pre.0.few _ _ pre.4 pre.5 _ c2.wide-x.ensures _ c2.behind-from.ensures _ c2.without-unused.ensures _ c1.fill.ensures _ _ _
-    c1.followers-after.ensures c.lacking.ensures c.intersection.ensures pre.2 _ c.lowest-place.ensures
+    let pre = c.requires in
+    extension_next _ _ _ pre.0.few _ _ pre.4 pre.5 _ c.wide-x.ensures _ c.behind-from.ensures _ c.without-unused.ensures _ c.fill.ensures _ _ _
+    c.followers-after.ensures c.lacking.ensures c.intersection.ensures pre.2 _ c.lowest-place.ensures

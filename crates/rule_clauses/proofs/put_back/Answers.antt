@@ -15,11 +15,7 @@ put_added_flipped-last-requires c = search (rules, back_third)
 
 pub put_plain-requires : goal.put_plain-requires
 put_plain-requires c =
-    let added = c in
-    let second = added in
-    let first = second in
-    let start = first in
-    (back_fourth _ _ _ start.requires.1 _ _ start.requires.2 _ _ first.put_flipped-middle.ensures _ _ second.put_flipped-behind.ensures _ _ added.put_added_flipped-last.ensures, search rules)
+    (back_fourth _ _ _ c.requires.1 _ _ c.requires.2 _ _ c.put_flipped-middle.ensures _ _ c.put_flipped-behind.ensures _ _ c.put_added_flipped-last.ensures, search rules)
 
 pub returns : goal.returns
 returns c = search (rules, back_wrote)

@@ -14,11 +14,7 @@ put_plain-third-requires c = search (rules, rule_third)
 
 pub put_back-requires : goal.put_back-requires
 put_back-requires c =
-    let third = c in
-    let second = third in
-    let first = second in
-    let start = first in
-    (start.requires.0, start.requires.1, rule_fourth _ _ _ _ _ _ start.requires.4 _ _ first.put_two-first.ensures _ _ second.put_body_pairs-second.ensures _ _ third.put_plain-third.ensures)
+    (c.requires.0, c.requires.1, rule_fourth _ _ _ _ _ _ c.requires.4 _ _ c.put_two-first.ensures _ _ c.put_body_pairs-second.ensures _ _ c.put_plain-third.ensures)
 
 pub returns : goal.returns
 returns c = search (rules, rule_wrote)

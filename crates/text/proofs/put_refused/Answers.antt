@@ -9,12 +9,8 @@ put_decimal-b-requires c = omega (arith, decimal_wide _ c.ranges.refusal)
 
 pub put_text-requires : goal.put_text-requires
 put_text-requires c =
-    let c1 = c in
-    omega (arith, decimal_wide _ c1.ranges.refusal)
+    omega (arith, decimal_wide _ c.ranges.refusal)
 
 pub returns : goal.returns
 returns c =
-    let c1 = c in
-    let c2 = c1 in
-    let c3 = c2 in
-    wrote_refused _ _ _ _ _ _ _ _ c3.put_text-a.ensures c2.put_decimal-b.ensures c1.put_text.ensures
+    wrote_refused _ _ _ _ _ _ _ _ c.put_text-a.ensures c.put_decimal-b.ensures c.put_text.ensures

@@ -26,10 +26,7 @@ put-b-requires c = search (rules, second_room)
 
 pub put-requires-2 : goal.put-requires-2
 put-requires-2 c =
-    let c1 = c in
-    let c2 = c1 in
-    let c3 = c2 in
-    third_room _ _ _ c3.requires.1 _ _ _ c2.put-a-2.ensures _ _ _ c1.put-b.ensures c2.if-n-lt100.false c3.requires.0
+    third_room _ _ _ c.requires.1 _ _ _ c.put-a-2.ensures _ _ _ c.put-b.ensures c.if-n-lt100.false c.requires.0
 
 pub returns : goal.returns
 returns c = search (rules, wrote_three_digits)

@@ -17,10 +17,7 @@ overflow_add-atoms c = search (rules, totalling_atoms)
 
 pub loop-i-preserved : goal.loop-i-preserved
 loop-i-preserved c =
-    let step = c in
-    let test = step in
-    let sized = test in
-    totalling_turn _ _ _ sized.requires _ _ _ _ _ test.loop-i.invariant test.loop-i-test.true _ step.byte_at.ensures _ _ step.copy_step-step.ensures _ sized.body_sizes-table.ensures _ c.listed_sum-atoms.ensures
+    totalling_turn _ _ _ c.requires _ _ _ _ _ c.loop-i.invariant c.loop-i-test.true _ c.byte_at.ensures _ _ c.copy_step-step.ensures _ c.body_sizes-table.ensures _ c.listed_sum-atoms.ensures
 
 pub returns : goal.returns
 returns c = search (rules, totalling_end)

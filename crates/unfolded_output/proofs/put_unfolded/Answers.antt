@@ -11,25 +11,12 @@ put_copies-behind-requires c = search (rules, whole_copies)
 
 pub put_word-next-requires : goal.put_word-next-requires
 put_word-next-requires c =
-    let copies = c in
-    let first = copies in
-    let table = first in
-    whole_number _ _ _ _ _ _ table.requires.0 table.last_copies-table.ensures _ table.requires.1 _ _ first.put_word.ensures _ _ copies.put_copies-behind.ensures
+    whole_number _ _ _ _ _ _ c.requires.0 c.last_copies-table.ensures _ c.requires.1 _ _ c.put_word.ensures _ _ c.put_copies-behind.ensures
 
 pub put_entries-requires : goal.put_entries-requires
 put_entries-requires c =
-    let word = c in
-    let copies = word in
-    let first = copies in
-    let table = first in
-    let start = table in
-    (table.last_copies-table.ensures, start.requires.0.readable.few, whole_constraints _ _ _ _ _ _ start.requires.0 table.last_copies-table.ensures _ start.requires.1 _ _ first.put_word.ensures _ _ copies.put_copies-behind.ensures _ _ word.put_word-next.ensures)
+    (c.last_copies-table.ensures, c.requires.0.readable.few, whole_constraints _ _ _ _ _ _ c.requires.0 c.last_copies-table.ensures _ c.requires.1 _ _ c.put_word.ensures _ _ c.put_copies-behind.ensures _ _ c.put_word-next.ensures)
 
 pub returns : goal.returns
 returns c =
-    let last = c in
-    let word = last in
-    let copies = word in
-    let first = copies in
-    let table = first in
-    words_wrote _ _ _ _ _ _ table.requires.0 table.last_copies-table.ensures _ _ _ _ _ _ _ _ _ first.put_word.ensures copies.put_copies-behind.ensures word.put_word-next.ensures last.put_entries.ensures
+    words_wrote _ _ _ _ _ _ c.requires.0 c.last_copies-table.ensures _ _ _ _ _ _ _ _ _ c.put_word.ensures c.put_copies-behind.ensures c.put_word-next.ensures c.put_entries.ensures
