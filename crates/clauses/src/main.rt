@@ -1,7 +1,7 @@
 // A sheet and a sequence on standard input; out come their clauses as DIMACS CNF text, or the refusal.
 #![tactic(auto)]
 
-ghost use Rattle.std.specs.Prelude.{◌≤◌, length, take, IfOk};
+ghost use Rattle.std.specs.Prelude.{◌≡◌, ◌≤◌, length, take, IfOk, OnErr};
 ghost use Rattle.dimacs.specs.Text.{sheet_of, sequence_of};
 ghost use Rattle.operations.specs.Outcome.{from_clauses};
 ghost use Rattle.operations.specs.Calls.{integers, Promised};
@@ -41,10 +41,11 @@ fn answer(buffer: &mut [u8], n: usize) -> usize
     }
 }
 
-// The first 65,536 bytes of the input, at the beginning of the buffer. Answers how many they are; a read that fails is handed on as it is.
+// The first 65,536 bytes of the input, at the beginning of the buffer. Answers how many they are; an error is that of a read.
 fn read_input<R: Read>(reader: &mut R, buffer: &mut [u8]) -> io::Result<usize>
     requires { 65536 ≤ length buffer.old }
-    ensures { IfOk result (λ n. n ≤ length buffer.new) }
+    ensures within { IfOk result (λ n. n ≤ length buffer.new) }
+    ensures failed { OnErr result (length buffer.new ≡ length buffer.old) }
 {
     read_full(reader, &mut buffer[0..65536])
 }
