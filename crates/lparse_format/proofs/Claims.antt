@@ -1,6 +1,6 @@
 -- The proof of each claim.
 use Rattle.lparse_format.specs.Claims.{LparseIsRead, ExportIsFaithful}
-use Rattle.lparse_format.proofs.Decoding.{read_program}
+use Rattle.lparse_format.proofs.Reading.{read_program}
 use Rattle.lparse_format.proofs.Meaning.{same_models}
 
 pub lparse_is_read : LparseIsRead

@@ -21,7 +21,7 @@ use Rattle.lparse_format.specs.Text.{field_text, line, body_numbers, rule_text, 
 use Rattle.lparse_format.specs.Decoded.{parts_at, fields_of, lines_of, number_in, numbers_of, first_of, ends_section, section_of, behind_section, read_body, read_rule, read_symbol, read_number, same, is_label, behind_label, read_lines, read_lparse}
 
 -- The byte is not one of the bytes.
-abbrev lacks : ℕ → List ℕ → Bool
+abbrev pub lacks : ℕ → List ℕ → Bool
 lacks end l = all (λ b. not (eqb b end)) l
 
 lacks_append : (end : ℕ) (l m : List ℕ) → lacks end l ≡ true → lacks end m ≡ true → lacks end (l ++ m) ≡ true
@@ -47,7 +47,7 @@ module _ (end : ℕ) (low : end < 48) where
   lacks_digits (suc k) n =
       by_bool (ltb n 10) (λ t. rw t (lacks_digit n)) (λ f. rw f (lacks_append end (digits k (n / 10)) (digit (n % 10) ∷ []) (lacks_digits k (n / 10)) (lacks_digit (n % 10))))
 
-  lacks_decimal : (n : ℕ) → lacks end (decimal n) ≡ true
+  pub lacks_decimal : (n : ℕ) → lacks end (decimal n) ≡ true
   unfolding decimal
   lacks_decimal n = lacks_digits (suc n) n
 
@@ -92,7 +92,7 @@ reads_numbers k ks =
     (reads_line (decimal k ++ flat_map field_text ks) (lacks_append 10 (decimal k) (flat_map field_text ks) (lacks_decimal 10 (omega arith) k) (lacks_fields ks)))
 
 -- A text of a number_in is one line that does not end a part, and the number_in is read back from its fields.
-record Line {A : Type 0} (text : A → List ℕ) (back : List (List ℕ) → A) (x : A) : Type 0 where
+pub record Line {A : Type 0} (text : A → List ℕ) (back : List (List ℕ) → A) (x : A) : Type 0 where
   fields : List (List ℕ)
   reads : Reads (text x) fields
   inner : ends_section fields ≡ false
@@ -157,7 +157,7 @@ symbol_fields s e =
     regroup : decimal s.atom ++ ascii " " ++ s.name ++ ascii " " ≡ decimal s.atom ++ (ascii " " ++ (s.name ++ ascii " "))
     regroup = simp append_assoc
 
-symbol_line_lem : (s : Symbol) → 0 < s.atom → lacks 10 s.name ≡ true → lacks 32 s.name ≡ true → Line symbol_text read_symbol s
+pub symbol_line_lem : (s : Symbol) → 0 < s.atom → lacks 10 s.name ≡ true → lacks 32 s.name ≡ true → Line symbol_text read_symbol s
 unfolding symbol_text read_symbol ends_section first_of all
 symbol_line_lem s low e f =
     record {
@@ -196,7 +196,7 @@ module _ (E : LparseProgram) (symbols : (s : Symbol) → Memᴰ s E.symbols → 
       ap (λ t. first_of (map read_number (lines_of t))) (sym (append-nil (line E.models [])))
       ∙ (ap (λ ls. first_of (map read_number ls)) (reads_numbers E.models [] []) ∙ read_number_lem E.models)
 
-  read_text : read_lparse (lparse_text E) ≡ E
+  pub read_text : read_lparse (lparse_text E) ≡ E
   unfolding read_lparse read_lines behind_label is_label same lines_of fields_of parts_at
   read_text =
       let R = read_section rule_text (λ l. read_rule (numbers_of l)) E.rules (λ q _. rule_line q) behind_rules in
@@ -204,18 +204,3 @@ module _ (E : LparseProgram) (symbols : (s : Symbol) → Memᴰ s E.symbols → 
       let P = read_section atom_text read_number E.plus (λ a m. atom_line a (plus a m)) (ascii "B-\n" ++ behind_minus) in
       let M = read_section atom_text read_number E.minus (λ a m. atom_line a (minus a m)) (line E.models []) in
       ap read_lparse regroup ∙ rw (R.inside, R.behind, S.inside, S.behind, P.inside, P.behind, M.inside, M.behind, read_models) refl
-
--- The name of an atom has no line end and no space.
-name_lacks : (end : ℕ) → end < 48 → (a : ℕ) → lacks end (symbol a).name ≡ true
-unfolding symbol all
-name_lacks end low a = and_intro (not_intro (ne_eqb 97 end (λ e. omega arith))) (lacks_decimal end low a)
-
-named : (a : ℕ) → Line symbol_text read_symbol (symbol a)
-unfolding symbol
-named a = symbol_line_lem (symbol a) (omega arith) (name_lacks 10 (omega arith) a) (name_lacks 32 (omega arith) a)
-
-pub read_program : (n : ℕ) (rs : List Record) → read_lparse (lparse_text (lparse_program n rs)) ≡ lparse_program n rs
-unfolding lparse_program
-read_program n rs =
-    read_text (lparse_program n rs) (λ s m. let u = Memᴰ.of_map symbol (range 0 n) m in subst (Line symbol_text read_symbol) u.2 (named u.0)) (λ a m. absurd (Memᴰ.not-nil m))
-    (λ a m. let e = Memᴰ.eq_of_singleton m in omega arith)

@@ -1,4 +1,5 @@
 pub mod Decoding
+pub mod Reading
 pub mod Meaning
 pub mod Longest
 pub mod Claims
