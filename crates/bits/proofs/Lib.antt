@@ -6,3 +6,4 @@ pub mod Runs
 pub mod Rising
 pub mod Listing
 pub mod Picking
+pub mod Places

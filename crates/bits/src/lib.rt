@@ -1,11 +1,12 @@
 // Sets of atoms below 64 in a u64: atom a is in the set where digit a of the number is 1.
 #![tactic(auto)]
 
-ghost use Rattle.std.specs.Prelude.{◌≡◌, true, ◌+◌, ◌≤◌, ◌<◌, length};
+ghost use Rattle.std.specs.Prelude.{◌≡◌, ◌==◌, true, ◌+◌, ◌≤◌, ◌<◌, length, position};
 ghost use Rattle.bits.specs.inner.Sets.{has, With, WithIf, Without, ByteAt, Gathered, Subset, Both, Either, Difference, Size};
-ghost use Rattle.bits.specs.inner.Listed.{Listing};
 ghost use Rattle.bits.specs.inner.Visited.{listed, Lowest, Rest, HasRun, WithoutRun};
 ghost use Rattle.lists.specs.Lists.{below};
+
+use arrayvec::ArrayVec;
 
 // Is a in the set?
 pub fn has(x: u64, a: usize) -> bool
@@ -16,6 +17,7 @@ pub fn has(x: u64, a: usize) -> bool
 }
 
 // The set with a.
+#[tactic(auto, using(crate::proofs::Digits::or_grows, crate::proofs::Digits::with_has))]
 pub fn with(x: u64, a: usize) -> u64
     requires { a < 64 }
     ensures { With x a result }
@@ -32,27 +34,20 @@ pub fn byte_at(s: &[u8], i: usize) -> usize
 }
 
 // The set of the atoms of a list.
+#[tactic(auto, using(crate::proofs::Gathering::gathering_start, crate::proofs::Gathering::gathering_end))]
 pub fn gather(l: &[u8]) -> u64
     requires { below 64 l.now ≡ true }
     ensures { Gathered l.now result }
 {
     let mut x: u64 = 0;
-    let mut i = 0;
-    while i < l.len() {
-        x = with(x, wide(l[i]));
-        i += 1;
+    for &b in l {
+        x = with(x, usize::from(b));
     }
     x
 }
 
-// A byte as an index.
-pub fn wide(b: u8) -> usize
-    ensures { result ≡ b }
-{
-    b as usize
-}
-
 // Is every atom of x in y?
+#[tactic(auto, using(crate::proofs::Digits::subset_test))]
 pub fn subset(x: u64, y: u64) -> bool
     ensures { Subset x y result }
 {
@@ -60,6 +55,7 @@ pub fn subset(x: u64, y: u64) -> bool
 }
 
 // The atoms in both sets.
+#[tactic(auto, using(crate::proofs::Digits::and_has))]
 pub fn intersection(x: u64, y: u64) -> u64
     ensures { Both x y result }
 {
@@ -67,6 +63,7 @@ pub fn intersection(x: u64, y: u64) -> u64
 }
 
 // The atoms of x that are not in y.
+#[tactic(auto, using(crate::proofs::Digits::less_has))]
 pub fn difference(x: u64, y: u64) -> u64
     ensures { Difference x y result }
 {
@@ -74,6 +71,7 @@ pub fn difference(x: u64, y: u64) -> u64
 }
 
 // How many atoms are in the set.
+#[tactic(auto, using(crate::proofs::Digits::ones_counted))]
 pub fn size(x: u64) -> u32
     ensures { Size x result }
 {
@@ -81,6 +79,7 @@ pub fn size(x: u64) -> u32
 }
 
 // The atoms in one set or the other.
+#[tactic(auto, using(crate::proofs::Digits::or_has))]
 pub fn union(x: u64, y: u64) -> u64
     ensures { Either x y result }
 {
@@ -88,6 +87,7 @@ pub fn union(x: u64, y: u64) -> u64
 }
 
 // The set with a, where b holds.
+#[tactic(auto, using(crate::proofs::Digits::with_yes, crate::proofs::Digits::with_no))]
 pub fn with_if(x: u64, a: usize, b: bool) -> u64
     requires { a < 64 }
     ensures { WithIf x a b result }
@@ -107,6 +107,7 @@ pub fn without(x: u64, a: usize) -> u64
 }
 
 // The smallest atom of a set.
+#[tactic(auto, using(crate::proofs::Visiting::trailing_lowest))]
 pub fn lowest(x: u64) -> usize
     requires { 0 < x }
     ensures { Lowest x result }
@@ -115,6 +116,7 @@ pub fn lowest(x: u64) -> usize
 }
 
 // The set without its smallest atom.
+#[tactic(auto, using(crate::proofs::Visiting::rest_is))]
 pub fn rest(x: u64) -> u64
     requires { 0 < x }
     ensures { Rest x result }
@@ -123,6 +125,7 @@ pub fn rest(x: u64) -> u64
 }
 
 // Are the eight atoms from a on all in the set?
+#[tactic(auto, using(crate::proofs::Runs::eight_has))]
 pub fn has_eight(x: u64, a: usize) -> bool
     requires { a < 64 }
     ensures { HasRun x a 8 result }
@@ -131,6 +134,7 @@ pub fn has_eight(x: u64, a: usize) -> bool
 }
 
 // The set without the eight atoms from a on.
+#[tactic(auto, using(crate::proofs::Runs::eight_without))]
 pub fn without_eight(x: u64, a: usize) -> u64
     requires { a + 8 ≤ 64 }
     ensures { WithoutRun x a 8 result }
@@ -138,26 +142,24 @@ pub fn without_eight(x: u64, a: usize) -> u64
     difference(x, 255 << a)
 }
 
-// At most 16 atoms, listed.
-#[derive(Drop)]
-pub struct Atoms {
-    pub atoms: [u8; 16],
-    pub t: usize,
-}
-
 // The atoms of a set of at most 16.
-pub fn list_set(x: u64) -> Atoms
+#[tactic(auto, using(crate::proofs::Listing::walking_room, crate::proofs::Listing::walking_turn, crate::proofs::Listing::walking_end))]
+pub fn list_set(x: u64) -> ArrayVec<u8, 16>
     requires { length (listed x) ≤ 16 }
-    ensures { Listing x result }
+    ensures { result.items ≡ listed x }
 {
-    let mut atoms = [0u8; 16];
-    let mut t = 0;
+    let mut atoms = ArrayVec::new();
     let mut left = x;
     while 0 < left {
-        let a = lowest(left);
-        atoms[t] = (a % 256) as u8;
-        t += 1;
+        atoms.push(lowest(left) as u8);
         left = rest(left);
     }
-    Atoms { atoms, t }
+    atoms
+}
+
+// The place of a number in a list.
+pub fn place_of(l: &[u8], a: usize) -> Option<usize>
+    ensures { result ≡ position (λ b. b == a) l.now }
+{
+    l.iter().position(|&b| usize::from(b) == a)
 }

@@ -1,64 +1,83 @@
 -- Laws of showing a body: its record is gone on to, then its place is found.
 use mathlib.Core.List.{List}
-use mathlib.Core.Path.{◌≡◌, refl, sym, ◌∙◌, ap}
+use mathlib.Core.Path.{◌≡◌, refl, sym, ◌∙◌, ap, subst}
 use Prim.Native.Nat.{ℕ, zero, suc, ◌+◌, ◌-◌, ◌≤◌, ◌<◌}
 use native.Mathlib.Numerals.{sub-one}
 use native.Mathlib.Omega.{arith}
-use borrow.Author.Tests.{ne_eqb, lt-ltb, le-ltb}
+use borrow.Author.Tests.{lt-ltb, le-ltb}
 use lib.Dec.{ltb}
 use Rattle.bits.specs.inner.Sets.{ByteAt}
+use Rattle.std.proofs.Common.{Ok, Err}
+use Rattle.refusals.specs.declared.Refusal.{Refusal}
+use Rattle.refusals.specs.declared.Refusal.TheVariants as refusal
+use Rattle.refusals.proofs.Asking.{number_positive}
 use Rattle.sheet.specs.Questions.{ask, ◌then◌, first_refusal}
 use Rattle.sheet.specs.Format.{records_byte, end, positives}
 use Rattle.sheet.specs.inner.Walk.{Walk, Stepped}
 use Rattle.sheet.specs.declared.Limits.{Limits}
 use Rattle.sheet.proofs.Questions.{then_refused, then_zero, then_none}
 use Rattle.sheet.proofs.Walk.{formed, walk_known}
-use Rattle.operations.specs.Outputs.{offset, place, body_end, body_positives}
+use Rattle.operations.specs.Outputs.{offset, place}
 use Rattle.operations.specs.Questions.{question_b}
 use Rattle.operations.specs.Calls.{describe, input_questions}
 use Rattle.operations.specs.Calls as call
-use Rattle.operations.specs.Bodies.{body_refusal, nowhere, body_place, FindPromise}
-use Rattle.operations.specs.declared.BodyPlace.{BodyPlace}
+use Rattle.operations.specs.Bodies.{body_refusal, FindPromise}
 use Rattle.operations.specs.inner.Refusals.{sheet_refusal}
 use Rattle.operations.proofs.Questions.{call_parted}
 use Rattle.sheet_check.specs.inner.Checked.{SheetChecked}
 use Rattle.sheet_check.specs.declared.SheetNumbers.{SheetNumbers}
-use Rattle.operations.proofs.Bodies.{place_shown}
+use Rattle.operations.proofs.Bodies.{find_place, find_nowhere}
 use Rattle.body_operations.specs.inner.Places.{Placed}
 
-pub walk_accepted : (L : Limits) (s es cs ss : List ℕ) (r : SheetNumbers) → SheetChecked L s es cs ss r → r.refusal ≡ 0 → Walk s r.written r.records 5
-walk_accepted L s es cs ss r A z = let K = (A.accepted z).bytes in rw (K.written, K.number) (formed L s K.form).walk
+pub walk_accepted : (L : Limits) (s es cs ss : List ℕ) (r : SheetNumbers) → SheetChecked L s es cs ss (Ok r) → Walk s r.written r.records 5
+walk_accepted L s es cs ss r A = let K = A.value.accepted.bytes in rw (K.written, K.number) (formed L s K.form).walk
 
--- Going on to a record.
-pub record Going (s : List ℕ) (n number left at i : ℕ) : Type 0 where
-  pub walk : Walk s n left at
-  pub same : offset i s at ≡ place number s
-  pub more : i < left
+-- Going on to a record, behind the first i of them.
+pub record Going (s : List ℕ) (n m number at i : ℕ) : Type 0 where
+  pub walk : Walk s n (m - i) at
+  pub same : offset (number - i) s at ≡ place number s
+  pub more : number < m
+  pub upto : i ≤ number
 
-module _ (s : List ℕ) (n number : ℕ) where
-  pub going_start : (m : ℕ) → Walk s n m 5 → number < m → Going s n number m 5 number
+module _ (s : List ℕ) (n m number : ℕ) where
+  pub going_start : Walk s n m 5 → number < m → Going s n m number 5 0
   unfolding place
-  going_start m W l = record { walk = W; same = refl; more = l }
+  going_start W l =
+      let a : m - 0 ≡ m = omega arith in
+      let b : number - 0 ≡ number = omega arith in
+      record { walk = rw a W; same = rw b refl; more = l; upto = omega arith }
 
-  further : (i at : ℕ) → 0 < i → offset i s at ≡ offset (i - 1) s (end s at)
+  further : (k at : ℕ) → 0 < k → offset k s at ≡ offset (k - 1) s (end s at)
   unfolding offset
   further zero at l = absurd (omega arith)
-  further (suc i) at l = rw (sub-one (suc i)) refl
+  further (suc k) at l = rw (sub-one (suc k)) refl
 
-  pub going_turn : (left at i r : ℕ) → Going s n number left at i → 0 < i → Stepped s n left at r → Going s n number (left - 1) r (i - 1)
-  going_turn left at i r G l S =
-      let k = G.more in
-      record { walk = S.rest; same = ap (offset (i - 1) s) S.is ∙ (sym (further i at l) ∙ G.same); more = omega arith }
+  module _ (at i : ℕ) (G : Going s n m number at i) where
+    pub going_left : i ≤ m
+    going_left = let a = G.more in let b = G.upto in omega arith
 
-  pub going_walk : (left at i : ℕ) → Going s n number left at i → 0 < i → 0 < left
-  going_walk left at i G l = let k = G.more in omega arith
+    pub going_turn : i < number → (r : ℕ) → Stepped s n (m - i) at r → Going s n m number r (i + 1)
+    going_turn l r S =
+        let k = G.more in
+        let a : m - i - 1 ≡ m - (i + 1) = omega arith in
+        let b : number - i - 1 ≡ number - (i + 1) = omega arith in
+        record {
+          walk = subst (λ j. Walk s n j r) a S.rest;
+          same = ap (λ j. offset j s r) (sym b) ∙ (ap (offset (number - i - 1) s) S.is ∙ (sym (further (number - i) at (omega arith)) ∙ G.same));
+          more = k;
+          upto = omega arith;
+        }
 
-  pub going_end : (left at i : ℕ) → Going s n number left at i → i ≤ 0 → Placed s n number at
-  unfolding offset
-  going_end left at i G l =
-      let k = G.more in
-      let z : i ≡ 0 = omega arith in
-      record { is = ap (λ j. offset j s at) (sym z) ∙ G.same; known = walk_known s n left at G.walk (omega arith) }
+    pub going_walk : i < number → 0 < m - i
+    going_walk l = let k = G.more in omega arith
+
+    pub going_end : number ≤ i → Placed s n number at
+    unfolding offset
+    going_end l =
+        let k = G.more in
+        let u = G.upto in
+        let z : number - i ≡ 0 = omega arith in
+        record { is = ap (λ j. offset j s at) (sym z) ∙ G.same; known = walk_known s n (m - i) at G.walk (omega arith) }
 
 -- The body.
 module _ (L : Limits) (i : ℕ) (s : List ℕ) where
@@ -66,41 +85,33 @@ module _ (L : Limits) (i : ℕ) (s : List ℕ) where
   unfolding describe input_questions first_refusal
   body_asked = call_parted L (call.body i s) ∙ ap (λ r. sheet_refusal L s then r) (then_none (question_b i s))
 
-  find_nowhere : (b : BodyPlace) (refusal : ℕ) → b ≡ nowhere refusal → refusal ≡ body_refusal L i s → (refusal ≡ 0 → ⊥) → FindPromise L i s b
-  unfolding body_place
-  find_nowhere b refusal e same ne =
-      let is : nowhere refusal ≡ body_place L i s = ap nowhere same ∙ sym (rw (ne_eqb (body_refusal L i s) 0 (λ z. ne (same ∙ z))) refl) in
-      rw e (record { is = is; order = omega arith; inside = omega arith })
+  pub body_refused : (es cs ss : List ℕ) (e : Refusal) → SheetChecked L s es cs ss (Err e) → FindPromise L i s (Err e)
+  body_refused es cs ss e A =
+      let p = number_positive e in
+      let f = A.says in
+      find_nowhere L i s e (f ∙ sym (body_asked ∙ then_refused (sheet_refusal L s) _ (λ z. omega arith)))
 
-  module _ (es cs ss : List ℕ) (r : SheetNumbers) (A : SheetChecked L s es cs ss r) where
-    pub body_refused : (b : BodyPlace) → (r.refusal ≡ 0 → ⊥) → b ≡ nowhere r.refusal → FindPromise L i s b
-    body_refused b ne e =
-        let says = A.says in
-        find_nowhere b r.refusal e (says ∙ sym (body_asked ∙ then_refused (sheet_refusal L s) _ (λ z. ne (says ∙ z)))) ne
+  module _ (es cs ss : List ℕ) (r : SheetNumbers) (A : SheetChecked L s es cs ss (Ok r)) where
+    twelfth : body_refusal L i s ≡ ask (ltb i (records_byte s)) 12
+    twelfth = body_asked ∙ then_zero (sheet_refusal L s) _ (sym A.says)
 
-    module _ (z : r.refusal ≡ 0) where
-      twelfth : body_refusal L i s ≡ ask (ltb i (records_byte s)) 12
-      twelfth = body_asked ∙ then_zero (sheet_refusal L s) _ (sym A.says ∙ z)
+    pub body_past : r.records ≤ i → FindPromise L i s (Err refusal.Number)
+    unfolding ask
+    body_past l =
+        let k = A.value.accepted.bytes.number in
+        find_nowhere L i s refusal.Number (sym (twelfth ∙ rw (le-ltb i (records_byte s) (omega arith)) refl))
 
-      pub body_past : (b : BodyPlace) → r.records ≤ i → b ≡ nowhere 12 → FindPromise L i s b
-      unfolding ask
-      body_past b l e =
-          let k = (A.accepted z).bytes.number in
-          find_nowhere b 12 e (sym (twelfth ∙ rw (le-ltb i (records_byte s) (omega arith)) refl)) (λ w. omega arith)
-
-      pub body_shown : (n at e p : ℕ) → i < r.records → Placed s n i at → e ≡ end s at → ByteAt s (at + 3) p
-          → FindPromise L i s (record { refusal = 0; start = at + 4; end = e; positives = p })
-      unfolding ask
-      body_shown n at e p l K last B =
-          let k = (A.accepted z).bytes.number in
-          let w = K.known.whole in
-          let three = w.three in
-          let fits = w.fits in
-          let passed : body_refusal L i s ≡ 0 = twelfth ∙ rw (lt-ltb i (records_byte s) (omega arith)) refl in
-          let stop : e ≡ body_end i s = last ∙ ap (end s) K.is in
-          let count : p ≡ body_positives i s = B.is ∙ ap (positives s) K.is in
-          record {
-            is = rw (stop, count, K.is) (place_shown L i s passed);
-            order = omega arith;
-            inside = omega arith;
-          }
+    pub body_shown : (n at e p : ℕ) → i < r.records → Placed s n i at → e ≡ end s at → ByteAt s (at + 3) p
+        → FindPromise L i s (Ok (record { start = at + 4; end = e; positives = p }))
+    unfolding ask
+    body_shown n at e p l K last B =
+        let k = A.value.accepted.bytes.number in
+        let w = K.known.whole in
+        let three = w.three in
+        let fits = w.fits in
+        let passed : body_refusal L i s ≡ 0 = twelfth ∙ rw (lt-ltb i (records_byte s) (omega arith)) refl in
+        record {
+          is = find_place L i s (record { start = at + 4; end = e; positives = p }) passed (ap (λ k. k + 4) K.is) (last ∙ ap (end s) K.is) (B.is ∙ ap (positives s) K.is);
+          order = omega arith;
+          inside = omega arith;
+        }

@@ -1,10 +1,12 @@
 -- Laws of writing the words of one body.
 use mathlib.Core.Bool.{Bool, true}
-use mathlib.Core.List.{List, [], ◌∷◌, ◌++◌, map, map-append, flat_map}
+use mathlib.Core.List.{List, [], ◌∷◌, ◌++◌, map, map-append, append_assoc, flat_map}
 use mathlib.Core.Path.{◌≡◌, refl, sym, ◌∙◌, ap, ap₂, subst}
 use Prim.Native.Nat.{ℕ, zero, suc, ◌+◌, ◌-◌, ◌≤◌, ◌<◌}
 use native.Mathlib.Omega.{arith}
-use lib.ListN.{length, length-append, length-map, get_or}
+use borrow.Rule.Slice.PartMut.{put_mid, Post-is}
+use lib.ListN.{length, length-append, length-map, get_or, take, drop}
+use lib.Seq.{drop-cons, sets-eq}
 use Rattle.lists.specs.Lists.{range}
 use Rattle.lists.proofs.Nodup.{length_range}
 use Rattle.unfolding.specs.Unfolded.{last, renamed, body_words}
@@ -16,7 +18,7 @@ use Rattle.program.specs.inner.Held.{added_atom, body_of}
 use Rattle.program.specs.declared.TableRule.{TableRule}
 use Rattle.writer.specs.inner.Wrote.{Wrote}
 use Rattle.writer.proofs.Writing.{wrote_append}
-use Rattle.writer.proofs.Loops.{flat_map_one, SetLeft, set_start, set_turn, set_room, set_run_turn, set_run_room, set_length, set_end, RangeLeft, range_start, range_turn, range_room, range_length, range_end}
+use Rattle.writer.proofs.Loops.{flat_map_one, SetLeft, set_turn, set_room, set_run_turn, set_run_room, set_end}
 use Rattle.copies.specs.inner.Tables.{Values}
 use Rattle.copies.specs.inner.Bodies.{body_by, negative_atoms, body_atoms}
 use Rattle.copies.proofs.Tables.{listed_last}
@@ -27,9 +29,6 @@ abbrev pub VarsLeft : List ℕ → List ℕ → ℕ → ℕ → List ℕ → ℕ
 VarsLeft vars = SetLeft (λ b. get_or vars b 0 ∷ [])
 
 module _ (vars old : List ℕ) (at x : ℕ) where
-  pub vars_start : VarsLeft vars old at x old at x
-  vars_start = set_start (λ b. get_or vars b 0 ∷ []) old at x
-
   set_size : length (flat_map (λ b. get_or vars b 0 ∷ []) (listed x)) ≡ length (listed x)
   set_size = ap length (flat_map_one (λ b. get_or vars b 0) (listed x)) ∙ length-map (listed x) (λ b. get_or vars b 0)
 
@@ -57,9 +56,6 @@ module _ (vars old : List ℕ) (at x : ℕ) where
       run_turn new behind E =
           set_run_turn (λ b. get_or vars b 0 ∷ []) old at x cur next left S a 8 r L (H.run t) W new behind (subst (λ ws. Wrote cur next ws new behind) (sym (flat_map_one (λ b. get_or vars b 0) (range a 8))) E)
 
-    pub vars_length : length cur ≡ length old
-    vars_length = set_length (λ b. get_or vars b 0 ∷ []) old at x cur next left S
-
     pub vars_end : left ≤ 0 → SetWrote old at vars x cur next
     vars_end h =
         let W = set_end (λ b. get_or vars b 0 ∷ []) old at x cur next left S h in
@@ -78,38 +74,26 @@ module _ (left a r : ℕ) (L : Lowest left a) where
 pub run_fits : (x a : ℕ) (b : Bool) → HasRun x a 8 b → b ≡ true → a + 8 ≤ 64
 run_fits x a b H t = (H.run t).fits
 
--- Eight atoms in a row.
-abbrev pub EightLeft : List ℕ → List ℕ → ℕ → ℕ → List ℕ → ℕ → ℕ → Type 0
-EightLeft vars old at a = RangeLeft (λ b. get_or vars b 0 ∷ []) old at a (a + 8)
+-- Eight atoms in a row: the part of the table is copied.
+part_is : (vars : List ℕ) (a k : ℕ) → a + k ≤ length vars → take k (drop a vars) ≡ map (λ b. get_or vars b 0) (range a k)
+unfolding range
+part_is vars a zero h = refl
+part_is vars a (suc k) h = ap (take (suc k)) (drop-cons vars a 0 (omega arith)) ∙ ap (λ l. get_or vars a 0 ∷ l) (part_is vars (suc a) k (omega arith))
 
-module _ (vars old : List ℕ) (at a : ℕ) where
-  eight_are : flat_map (λ b. get_or vars b 0 ∷ []) (range a (a + 8 - a)) ≡ eight_words vars a
+module _ (vars old part : List ℕ) (at a : ℕ) where
+  pub eight_wrote : length vars ≡ 64 → a + 8 ≤ 64 → at + 8 ≤ length old → part ≡ take (a + 8 - a) (drop a vars) → Wrote old at (eight_words vars a) (put_mid at (at + 8 - at) old part) (at + 8)
   unfolding eight_words
-  eight_are = ap (λ k. flat_map (λ b. get_or vars b 0 ∷ []) (range a k)) (let e : a + 8 - a ≡ 8 = omega arith in e) ∙ flat_map_one (λ b. get_or vars b 0) (range a 8)
-
-  eight_size : length (eight_words vars a) ≡ 8
-  unfolding eight_words
-  eight_size = length-map (range a 8) (λ b. get_or vars b 0) ∙ length_range a 8
-
-  pub eight_start : EightLeft vars old at a old at a
-  eight_start = range_start (λ b. get_or vars b 0 ∷ []) old at a (a + 8)
-
-  module _ (cur : List ℕ) (next b : ℕ) (L : EightLeft vars old at a cur next b) where
-    module _ (lt : b < a + 8) where
-      pub eight_room : at + 8 ≤ length old → next < length cur
-      eight_room h =
-          let s = ap length eight_are ∙ eight_size in
-          let r = range_room (λ b. get_or vars b 0 ∷ []) old at a (a + 8) cur next b L lt (let l : at + length (flat_map (λ b. get_or vars b 0 ∷ []) (range a (a + 8 - a))) ≤ length old = omega arith in l) in
-          omega arith
-
-      pub eight_turn : (new : List ℕ) (behind : ℕ) → Wrote cur next (get_or vars b 0 ∷ []) new behind → EightLeft vars old at a new behind (b + 1)
-      eight_turn new behind W = range_turn (λ b. get_or vars b 0 ∷ []) old at a (a + 8) cur next b L lt new behind W
-
-    pub eight_length : length cur ≡ length old
-    eight_length = range_length (λ b. get_or vars b 0 ∷ []) old at a (a + 8) cur next b L
-
-    pub eight_end : a + 8 ≤ b → Wrote old at (eight_words vars a) cur next
-    eight_end l = subst (λ ws. Wrote old at ws cur next) eight_are (range_end (λ b. get_or vars b 0 ∷ []) old at a (a + 8) cur next b L l)
+  eight_wrote w f h e =
+      let ws = map (λ b. get_or vars b 0) (range a 8) in
+      let n : a + 8 - a ≡ 8 = omega arith in
+      let is : part ≡ ws = e ∙ (ap (λ k. take k (drop a vars)) n ∙ part_is vars a 8 (omega arith)) in
+      let s : length ws ≡ 8 = length-map (range a 8) (λ b. get_or vars b 0) ∙ length_range a 8 in
+      record {
+        stored = ap (put_mid at (at + 8 - at) old) is
+            ∙ (ap (λ d. take at old ++ (ws ++ d)) (Post-is at (at + 8) old (omega arith) ∙ ap (λ k. drop (at + k) old) (sym s))
+            ∙ (sym (append_assoc (take at old) ws (drop (at + length ws) old)) ∙ sym (sets-eq ws old at (omega arith))));
+        moved = omega arith;
+      }
 
 -- The added atom.
 module _ (added : ℕ) (old : List ℕ) (at : ℕ) where
@@ -132,8 +116,8 @@ module _ (added : ℕ) (old : List ℕ) (at : ℕ) where
     pub added_room : at + length (added_atom added) ≤ length old → at < length old
     added_room h = let e = size in omega arith
 
-    pub added_one : (new : List ℕ) (r : ℕ) → Wrote old at (added ∷ []) new r → AddedWrote old at added new r
-    added_one new r W = record { wrote = rw one W; far = let e = size in let m = W.moved in omega arith }
+    pub added_one : (v : ℕ) → v ≡ added → (new : List ℕ) (r : ℕ) → Wrote old at (v ∷ []) new r → AddedWrote old at added new r
+    added_one v e new r W = record { wrote = rw one (rw e at W); far = let e = size in let m = W.moved in omega arith }
 
 -- A rule's body.
 module _ (vars : List ℕ) (rule : TableRule) where

@@ -13,21 +13,15 @@ ghost use Rattle.body_words.specs.inner.Words.{eight_words, rule_body_words, Set
 use bits::{has_eight, lowest, rest, size, without_eight};
 use copies::negative_atoms;
 use program::TableRule;
-use writer::put_word;
+use writer::put;
 
 // The variables of the eight atoms from a on.
 fn put_eight(out: &mut [u32], at: usize, a: usize, vars: &[u32; 64]) -> usize
     requires { (a + 8 ≤ 64) × (at + 8 ≤ length out.old) }
     ensures { Wrote out.old at (eight_words vars.now a) out.new result }
 {
-    let end = a + 8;
-    let mut next = at;
-    let mut b = a;
-    while b < end {
-        next = put_word(out, next, vars[b]);
-        b += 1;
-    }
-    next
+    out[at..at + 8].copy_from_slice(&vars[a..a + 8]);
+    at + 8
 }
 
 // The variables of a set's atoms, eight at once where eight atoms in a row are in the set.
@@ -44,7 +38,7 @@ fn put_runs(out: &mut [u32], at: usize, x: u64, vars: &[u32; 64]) -> usize
             next = put_eight(out, next, a, vars);
             continue;
         }
-        next = put_word(out, next, vars[a]);
+        next = put(out, next, vars[a]);
         left = rest(left);
     }
     next
@@ -58,7 +52,7 @@ fn put_each(out: &mut [u32], at: usize, x: u64, vars: &[u32; 64]) -> usize
     let mut next = at;
     let mut left = x;
     while 0 < left {
-        next = put_word(out, next, vars[lowest(left)]);
+        next = put(out, next, vars[lowest(left)]);
         left = rest(left);
     }
     next
@@ -83,10 +77,11 @@ fn put_added(out: &mut [u32], at: usize, added: u8) -> usize
     if added == 0 {
         return at;
     }
-    put_word(out, at, added as u32)
+    put(out, at, u32::from(added))
 }
 
 // A rule's body: the numbers of positive and of negative atoms, and their variables.
+#[tactic(auto, unfolding(copies::specs::inner::Bodies::body_atoms, copies::specs::inner::Bodies::negative_atoms))]
 pub fn put_body(
     out: &mut [u32],
     at: usize,
@@ -97,8 +92,8 @@ pub fn put_body(
     requires { Values last lasts.now × (at + 2 + body_atoms rule ≤ length out.old) }
     ensures { Wrote out.old at (rule_body_words vars.now rule) out.new result }
 {
-    let second = put_word(out, at, size(rule.pos));
-    let first = put_word(out, second, negative_atoms(rule.neg, rule.added));
+    let second = put(out, at, size(rule.pos));
+    let first = put(out, second, negative_atoms(rule.neg, rule.added));
     let middle = put_set(out, first, rule.pos, vars);
     let end = put_set(out, middle, rule.neg, lasts);
     put_added(out, end, rule.added)

@@ -5,10 +5,16 @@ use mathlib.Core.Path.{◌≡◌, refl, sym, ◌∙◌, ap, subst}
 use Prim.Native.Nat.{ℕ, ◌^◌, ◌≤◌, ◌<◌}
 use native.Mathlib.Omega.{arith}
 use lib.ListN.{length}
+use Rattle.std.specs.Prelude.{Some, None}
 use Rattle.lists.specs.Lists.{below}
 use Rattle.lists.proofs.Members.{below_more}
 use Rattle.unfolding.specs.Chain.{passes}
 use Rattle.unfolding.proofs.Claims.{shortest_is_only}
+use Rattle.std.proofs.Common.{Ok, Err}
+use Rattle.refusals.specs.declared.Refusal.{Refusal}
+use Rattle.refusals.specs.declared.Refusal.TheVariants as refusal
+use Rattle.refusals.specs.Numbers.{number}
+use Rattle.refusals.proofs.Asking.{number_positive}
 use Rattle.sheet.specs.Questions.{ask, ◌then◌, first_refusal}
 use Rattle.sheet.specs.Sequence.{entries}
 use Rattle.sheet.specs.Sheet.{program}
@@ -35,7 +41,7 @@ use Rattle.operations.proofs.Writing.{room_refused, room_full, room_done}
 use Rattle.sheet_check.specs.inner.Checked.{SheetChecked}
 use Rattle.sheet_check.specs.declared.SheetNumbers.{SheetNumbers}
 use Rattle.sheet_check.proofs.Sheets.{sheet_small, sheet_graph}
-use Rattle.sequence_check.specs.inner.Checked.{entries_refusal}
+use Rattle.sequence_check.specs.inner.Checked.{entries_refusal, EntriesChecked}
 use Rattle.sequence_check.proofs.Entries.{sequence_fits_lem, sequence_low}
 use Rattle.sequence_check.proofs.Sequences.{sheet_refuses, entries_decide}
 
@@ -43,93 +49,94 @@ use Rattle.sequence_check.proofs.Sequences.{sheet_refuses, entries_decide}
 pub still_room : (k rows now : ℕ) → k ≤ rows → now ≡ rows → k ≤ now
 still_room k rows now l e = omega arith
 
-module _ (L : Limits) (s q old es cs ss : List ℕ) (r : SheetNumbers) (A : SheetChecked L s es cs ss r) where
+module _ (L : Limits) (s q old : List ℕ) where
   -- What is asked before question 10.
   abbrev asked : ℕ
   asked = input_refusal L (with_sequence s q) then first_refusal (question14 s q ∷ [])
 
-  refused_by : (k : ℕ) → k ≡ asked → (k ≡ 0 → ⊥) → Promised L (call.missing s q old) (refused k) (naturals old)
+  refused_by : (e : Refusal) → number e ≡ asked → Promised L (call.missing s q old) (refused (number e)) (naturals old)
   unfolding describe
-  refused_by k e ne = room_refused L (call.missing s q old) naturals (with_sequence s q) (question14 s q ∷ []) (missing_output s q) [] old refl k e ne
+  refused_by e is = room_refused L (call.missing s q old) naturals (with_sequence s q) (question14 s q ∷ []) (missing_output s q) [] old refl e is
 
-  pub missing_refused : (r.refusal ≡ 0 → ⊥) → Promised L (call.missing s q old) (refused r.refusal) (naturals old)
-  missing_refused ne = refused_by r.refusal (sheet_refuses L s q es cs ss r A ne (first_refusal (question14 s q ∷ []))) ne
+  pub missing_refused : (es cs ss : List ℕ) (e : Refusal) → SheetChecked L s es cs ss (Err e) → Promised L (call.missing s q old) (refused (number e)) (naturals old)
+  missing_refused es cs ss e A = refused_by e (sheet_refuses L s q es cs ss e A (first_refusal (question14 s q ∷ [])))
 
-  module _ (z : r.refusal ≡ 0) where
-    module _ (f : ℕ) (F : f ≡ entries_refusal L r.atoms q) where
-      behind : asked ≡ f then first_refusal (question14 s q ∷ [])
-      behind = ap (λ k. k then first_refusal (question14 s q ∷ [])) (entries_decide L s q es cs ss r A z ∙ sym F)
+module _ (L : Limits) (s q old es cs ss : List ℕ) (r : SheetNumbers) (A : SheetChecked L s es cs ss (Ok r)) where
+  behind : (k : ℕ) → k ≡ entries_refusal L r.atoms q → asked L s q old ≡ k then first_refusal (question14 s q ∷ [])
+  behind k F = ap (λ k. k then first_refusal (question14 s q ∷ [])) (entries_decide L s q es cs ss r A ∙ sym F)
 
-      pub missing_malformed : (f ≡ 0 → ⊥) → Promised L (call.missing s q old) (refused f) (naturals old)
-      missing_malformed ne = refused_by f (sym (behind ∙ then_refused f _ ne)) ne
+  pub missing_malformed : (e : Refusal) → EntriesChecked L r.atoms q (Err e) → Promised L (call.missing s q old) (refused (number e)) (naturals old)
+  missing_malformed e F =
+      let p = number_positive e in
+      refused_by L s q old e (sym (behind (number e) F.says ∙ then_refused (number e) _ (λ z. omega arith)))
 
-      module _ (t : f ≡ 0) where
-        pub missing_low : below 64 (entries q) ≡ true
-        missing_low = below_more r.atoms 64 (entries q) (A.accepted z).bytes.low (sequence_low L r.atoms es ss q f F t)
+  module _ (F : EntriesChecked L r.atoms q (Ok tt)) where
+    pub missing_low : below 64 (entries q) ≡ true
+    missing_low = below_more r.atoms 64 (entries q) A.value.accepted.bytes.low (sequence_low L r.atoms q F)
 
-        pub missing_position : Supported L → Position q 3
-        missing_position S =
-            let fits = sequence_fits_lem L r.atoms es ss q f F t in
-            let few = fits.few in
-            let size = fits.size in
-            let most = S.entries in
-            record { start = omega arith; inside = fits.three; short = omega arith }
+    pub missing_position : Supported L → Position q 3
+    missing_position S =
+        let fits = sequence_fits_lem L r.atoms q F in
+        let few = fits.few in
+        let size = fits.size in
+        let most = S.entries in
+        record { start = omega arith; inside = fits.three; short = omega arith }
 
-        fourteenth : asked ≡ question14 s q
-        unfolding first_refusal
-        fourteenth = behind ∙ (then_zero f _ t ∙ then_none (question14 s q))
+    fourteenth : asked L s q old ≡ question14 s q
+    unfolding first_refusal
+    fourteenth = behind 0 F.says ∙ (then_zero 0 _ refl ∙ then_none (question14 s q))
 
-        missing_found : passes (program s) (entries q) ≡ true → Promised L (call.missing s q old) (refused 14) (naturals old)
-        unfolding ask
-        missing_found e = refused_by 14 (sym (fourteenth ∙ ap (λ p. ask (not p) 14) e)) (λ e. omega arith)
+    missing_found : passes (program s) (entries q) ≡ true → Promised L (call.missing s q old) (refused 14) (naturals old)
+    unfolding ask
+    missing_found e = refused_by L s q old refusal.Found (sym (fourteenth ∙ ap (λ p. ask (not p) 14) e))
 
-        module _ (lacks : passes (program s) (entries q) ≡ false) where
-          all_yes : asked ≡ 0
-          unfolding ask
-          all_yes = fourteenth ∙ ap (λ p. ask (not p) 14) lacks
+    module _ (lacks : passes (program s) (entries q) ≡ false) where
+      all_yes : asked L s q old ≡ 0
+      unfolding ask
+      all_yes = fourteenth ∙ ap (λ p. ask (not p) 14) lacks
 
-          missing_full : length old < length (missing_output s q) → Promised L (call.missing s q old) (refused 10) (naturals old)
-          unfolding describe
-          missing_full l = room_full L (call.missing s q old) naturals (with_sequence s q) (question14 s q ∷ []) (missing_output s q) [] old refl all_yes l
+      missing_full : length old < length (missing_output s q) → Promised L (call.missing s q old) (refused 10) (naturals old)
+      unfolding describe
+      missing_full l = room_full L (call.missing s q old) naturals (with_sequence s q) (question14 s q ∷ []) (missing_output s q) [] old refl all_yes l
 
-          missing_done : (new : List ℕ) (next : ℕ) → length (missing_output s q) ≤ length old → Wrote old 0 (missing_output s q) new next
-              → Promised L (call.missing s q old) (answered (next ∷ [])) (naturals new)
-          unfolding describe
-          missing_done new next l W =
-              room_done L (call.missing s q old) naturals (with_sequence s q) (question14 s q ∷ []) (missing_output s q) [] old refl all_yes new next l W
+      missing_done : (new : List ℕ) (next : ℕ) → length (missing_output s q) ≤ length old → Wrote old 0 (missing_output s q) new next
+          → Promised L (call.missing s q old) (answered (next ∷ [])) (naturals new)
+      unfolding describe
+      missing_done new next l W =
+          room_done L (call.missing s q old) naturals (with_sequence s q) (question14 s q ∷ []) (missing_output s q) [] old refl all_yes new next l W
 
-        -- By the start that is found.
-        module _ (start : Start) (K : StartOf r.atoms es ss (entries q) start) where
-          edged : Edged (program s) es
-          edged = (sheet_graph L s es cs ss r A z).edged
+    edged : Edged (program s) es
+    edged = (sheet_graph L s es cs ss r A.value).edged
 
-          begins : Begins (program s) (entries q) (λ b. b < (program s).atoms) start
-          begins = K.is (program s) (sheet_graph L s es cs ss r A z)
+    -- No start is found.
+    pub missing_none : StartOf r.atoms es ss (entries q) None → Promised L (call.missing s q old) (refused 14) (naturals old)
+    missing_none K = missing_found (none_lacking (program s) edged.formed (entries q) (K.is (program s) (sheet_graph L s es cs ss r A.value)))
 
-          pub missing_none : 64 < start.length → Promised L (call.missing s q old) (refused 14) (naturals old)
-          missing_none l = missing_found (none_lacking (program s) edged.formed (entries q) start begins edged.low l)
+    -- By the start that is found.
+    module _ (start : Start) (K : StartOf r.atoms es ss (entries q) (Some start)) where
+      begins : Begins (program s) (entries q) (λ b. b < (program s).atoms) start
+      begins = (K.is (program s) (sheet_graph L s es cs ss r A.value)).some start refl
 
-          module _ (l : start.length ≤ 64) where
-            lacks : passes (program s) (entries q) ≡ false
-            lacks = some_lacking (program s) edged.formed (entries q) start begins l
+      lacks : passes (program s) (entries q) ≡ false
+      lacks = some_lacking (program s) edged.formed (entries q) start begins
 
-            size : length (missing_output s q) ≡ start.length
-            unfolding missing_output
-            size = start_length (program s) edged.formed (entries q) start begins l
+      size : length (missing_output s q) ≡ start.length
+      unfolding missing_output
+      size = start_length (program s) edged.formed (entries q) start begins
 
-            pub missing_roomy : Supported L → (rows : ℕ) → 2 ^ L.taken.component ≤ rows → Roomy (length (listed start.set)) rows
-            missing_roomy S rows T =
-                start_roomy (program s) r.atoms es ss (entries q) start (sheet_graph L s es cs ss r A z) K l rows (sheet_small L s es cs ss r A z S rows T)
+      pub missing_roomy : Supported L → (rows : ℕ) → 2 ^ L.taken.component ≤ rows → Roomy (length (listed start.set)) rows
+      missing_roomy S rows T =
+          start_roomy (program s) r.atoms es ss (entries q) start (sheet_graph L s es cs ss r A.value) begins rows (sheet_small L s es cs ss r A.value S rows T)
 
-            pub some_missing : SomeMissing es (entries q) start
-            some_missing = record { program = program s; edged = edged; begins = begins; there = l }
+      pub some_missing : SomeMissing es (entries q) start
+      some_missing = record { program = program s; edged = edged; begins = begins }
 
-            pub missing_no_room : length old < start.length → Promised L (call.missing s q old) (refused 10) (naturals old)
-            missing_no_room k = missing_full lacks (let e = size in omega arith)
+      pub missing_no_room : length old < start.length → Promised L (call.missing s q old) (refused 10) (naturals old)
+      missing_no_room k = missing_full lacks (let e = size in omega arith)
 
-            pub missing_put : (new : List ℕ) (next : ℕ) → start.length ≤ length old → MissingPut es (entries q) start old new next
-                → Promised L (call.missing s q old) (answered (next ∷ [])) (naturals new)
-            unfolding missing_output
-            missing_put new next k M =
-                let same = shortest_is_only (program s) edged.formed (entries q) M.chain (M.is (program s) edged begins l) in
-                missing_done lacks new next (let e = size in omega arith) (subst (λ w. Wrote old 0 w new next) same M.wrote)
+      pub missing_put : (new : List ℕ) (next : ℕ) → start.length ≤ length old → MissingPut es (entries q) start old new next
+          → Promised L (call.missing s q old) (answered (next ∷ [])) (naturals new)
+      unfolding missing_output
+      missing_put new next k M =
+          let same = shortest_is_only (program s) edged.formed (entries q) M.chain (M.is (program s) edged begins) in
+          missing_done lacks new next (let e = size in omega arith) (subst (λ w. Wrote old 0 w new next) same M.wrote)

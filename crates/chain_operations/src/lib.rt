@@ -8,57 +8,45 @@ ghost use Rattle.operations.specs.Requirements.{Supported, TableFor};
 
 use missing::put_missing;
 use missing_start::find_start;
-use operations::{TestAnswer, WriteAnswer};
+use refusals::Refusal;
 use sequence_check::{check_entries, check_sequence};
 use sheet::Limits;
 use sheet_check::check_sheet;
 
 // Testing a sequence: every chain must be found in it.
-pub fn test(limits: Limits, s: &[u8], q: &[u8], table: &mut [u64]) -> TestAnswer
+pub fn test(limits: Limits, s: &[u8], q: &[u8], table: &mut [u64]) -> Result<(), Refusal>
     requires { Supported limits × TableFor limits table.old }
     ensures { Promised limits (call.test s.now q.now) (from_test result) nothing }
 {
     let mut edges = [0u64; 64];
     let mut names = [0u8; 64];
     let mut sets = [0u64; 64];
-    let a = check_sheet(limits, s, &mut edges, &mut names, &mut sets);
-    let refusal = a.refusal;
-    if refusal != 0 {
-        return TestAnswer::Refused(refusal);
-    }
-    let refusal = check_sequence(limits, a.atoms, &edges, &sets, q, table);
-    if refusal != 0 {
-        return TestAnswer::Refused(refusal);
-    }
-    TestAnswer::Passed
+    let a = check_sheet(limits, s, &mut edges, &mut names, &mut sets)?;
+    check_sequence(limits, a.atoms, &edges, &sets, q, table)
 }
 
 // Finding the missing chain: the shortest chain that is not found in the sequence.
-pub fn missing(limits: Limits, s: &[u8], q: &[u8], out: &mut [u8], table: &mut [u64]) -> WriteAnswer
+pub fn missing(
+    limits: Limits,
+    s: &[u8],
+    q: &[u8],
+    out: &mut [u8],
+    table: &mut [u64],
+) -> Result<usize, Refusal>
     requires { Supported limits × TableFor limits table.old }
     ensures { Promised limits (call.missing s.now q.now out.old) (from_write result) (naturals out.new) }
 {
     let mut edges = [0u64; 64];
     let mut names = [0u8; 64];
     let mut sets = [0u64; 64];
-    let a = check_sheet(limits, s, &mut edges, &mut names, &mut sets);
-    let refusal = a.refusal;
-    if refusal != 0 {
-        return WriteAnswer::Refused(refusal);
-    }
+    let a = check_sheet(limits, s, &mut edges, &mut names, &mut sets)?;
     let n = a.atoms;
-    let entries = check_entries(limits, n, q);
-    if entries != 0 {
-        return WriteAnswer::Refused(entries);
-    }
-    let start = find_start(table, n, &edges, &sets, q);
-    // More than 64 atoms stand for no chain.
-    if 64 < start.length {
-        return WriteAnswer::Refused(14);
-    }
+    check_entries(limits, n, q)?;
+    let Some(start) = find_start(table, n, &edges, &sets, q) else {
+        return Err(Refusal::Found);
+    };
     if out.len() < start.length {
-        return WriteAnswer::Refused(10);
+        return Err(Refusal::Room);
     }
-    let length = put_missing(out, table, &edges, q, start);
-    WriteAnswer::Length(length)
+    Ok(put_missing(out, table, &edges, q, start))
 }

@@ -1,55 +1,31 @@
 -- Laws of places: the set of places that an atom has edges to, an atom's own place, and the atoms of a component.
 use mathlib.Core.Bool.{Bool}
 use mathlib.Core.List.{List}
-use mathlib.Core.Path.{◌≡◌, sym, ◌∙◌, ap, subst}
+use mathlib.Core.Path.{◌≡◌, ◌∙◌, ap}
 use Prim.Native.Nat.{ℕ, ◌+◌, ◌-◌, ◌*◌, ◌%◌, ◌^◌, ◌≤◌, ◌<◌}
 use native.Mathlib.Nat.{one-mul}
 use native.Mathlib.Omega.{arith}
-use borrow.Author.Tests.{eqb-true, eqb-false}
-use lib.Dec.{eqb, ltb}
-use lib.ListN.{get_or}
+use lib.Dec.{ltb}
+use lib.ListN.{length, get_or}
 use lib.Pow.{pow_mono, pow_pos, shl_exact}
-use Rattle.lists.proofs.Bools.{by_bool}
 use Rattle.bits.specs.inner.Sets.{has, WithIf}
-use Rattle.bits.specs.inner.Listed.{Low}
 use Rattle.bits.proofs.Digits.{full_has}
-use Rattle.bits.proofs.Picking.{Picking, picking_start, picking_turn, picked}
-use Rattle.chain_rows.specs.inner.Subsets.{Followers, PlaceOf, Power}
+use Rattle.bits.proofs.Picking.{Picking, picking_start, picking_turn}
+use Rattle.chain_rows.specs.inner.Subsets.{Followers, Power}
 
 -- The places that x has edges to.
 abbrev pub Following : List ℕ → List ℕ → ℕ → ℕ → ℕ → Type 0
 Following rows atoms x = Picking (λ q. has (get_or rows (get_or atoms q 0) 0) x)
 
-module _ (rows atoms : List ℕ) (k x : ℕ) where
+module _ (rows atoms : List ℕ) (x : ℕ) where
   pub following_start : Following rows atoms x 0 0
   following_start = picking_start (λ q. has (get_or rows (get_or atoms q 0) 0) x)
 
   pub following_turn : (p set a new : ℕ) (b : Bool) → Following rows atoms x p set → a ≡ get_or atoms p 0 → b ≡ has (get_or rows a 0) x → WithIf set p b new → Following rows atoms x (p + 1) new
   following_turn p set a new b F e f = picking_turn (λ q. has (get_or rows (get_or atoms q 0) 0) x) p set new b F (f ∙ ap (λ n. has (get_or rows n 0) x) e)
 
-  pub following_end : (p set : ℕ) → Following rows atoms x p set → p ≤ k → k ≤ p → Followers rows atoms k x set
-  following_end p set F l m = record { members = picked (λ q. has (get_or rows (get_or atoms q 0) 0) x) p k set F l m }
-
-  pub atom_low : (p a : ℕ) → Low atoms k → p < k → a ≡ get_or atoms p 0 → a < 64
-  atom_low p a L l e = subst (λ n. n < 64) (sym e) (L.low p l)
-
--- The atom is at none of the places below p.
-pub record Absent (atoms : List ℕ) (x p : ℕ) : Type 0 where
-  pub none : (q : ℕ) → q < p → get_or atoms q 0 ≡ x → ⊥
-
-module _ (atoms : List ℕ) (k x : ℕ) where
-  pub absent_start : Absent atoms x 0
-  absent_start = record { none = λ q l. absurd (omega arith) }
-
-  pub absent_turn : (p a : ℕ) → Absent atoms x p → a ≡ get_or atoms p 0 → (a ≡ x → ⊥) → Absent atoms x (p + 1)
-  absent_turn p a M e ne =
-      record { none = λ q l. by_bool (eqb q p) (λ t g. ne (e ∙ (ap (λ n. get_or atoms n 0) (sym (eqb-true q p t)) ∙ g))) (λ t. let d = eqb-false q p t in M.none q (omega arith)) }
-
-  pub place_found : (p a : ℕ) → p < k → a ≡ get_or atoms p 0 → a ≡ x → PlaceOf atoms k x p
-  place_found p a l e g = record { found = λ _. sym e ∙ g; absent = λ m. absurd (omega arith) }
-
-  pub place_absent : (p : ℕ) → Absent atoms x p → k ≤ p → PlaceOf atoms k x k
-  place_absent p M l = record { found = λ m. absurd (omega arith); absent = λ _ q m. M.none q (omega arith) }
+  pub following_end : (set : ℕ) → Following rows atoms x (length atoms) set → Followers rows atoms (length atoms) x set
+  following_end set F = record { members = F.members }
 
 -- The set of all k places.
 module _ (k size : ℕ) (N : Power k size) where

@@ -3,18 +3,20 @@ use mathlib.Core.Bool.{Bool, true, not, ◌&&◌, ◌||◌, or-false}
 use mathlib.Core.List.{List, ◌∷◌}
 use mathlib.Core.Logic.{◌↔◌, ⊎_elim}
 use mathlib.Core.Path.{◌≡◌, refl, sym, ◌∙◌, ap, subst}
-use Prim.Native.Nat.{ℕ, ◌^◌, ◌≤◌, ◌<◌}
+use Prim.Native.Nat.{ℕ, ◌^◌, ◌<◌}
 use native.Mathlib.Omega.{arith}
 use borrow.Author.Tests.{eqb-true, eqb-false, eq-eqb, ne_eqb, lt-ltb, ltb-true}
 use lib.Dec.{eqb, ltb}
-use lib.ListN.{get_or}
+use lib.ListN.{length, get_or}
+use Rattle.std.specs.Prelude.{Some, None, position}
 use Rattle.lists.proofs.Bools.{by_bool, true_false, and_intro, and_left, and_right, or_cases, or_right, not_intro, not_elim}
 use Rattle.asp.specs.Program.{Program}
 use Rattle.unfolding.specs.Graph.{edge, same_component}
 use Rattle.unfolding.specs.inner.Started.{Started}
 use Rattle.unfolding.proofs.Starting.{started_more, started_other, started_onward, started_own}
 use Rattle.bits.specs.inner.Sets.{has}
-use Rattle.chain_rows.specs.inner.Subsets.{Setting, AtPlaces, SubsetTable, RowAfter, TableAfter, Followers, PlaceOf, Power, WithEntry}
+use Rattle.chain_rows.specs.inner.Subsets.{Setting, AtPlaces, SubsetTable, RowAfter, TableAfter, Followers, Power, WithEntry}
+use Rattle.bits.proofs.Places.{place_own, place_none}
 
 module _ (P : Program) (rows atoms : List ℕ) (k : ℕ) (K : Setting P rows atoms k) where
   abbrev atom : ℕ → ℕ
@@ -115,10 +117,11 @@ module _ (P : Program) (rows atoms : List ℕ) (k : ℕ) (K : Setting P rows ato
           λ D. kept S l p m ne ∙ (T.right S l p m e).1 (started_other P K.formed x s (AtPlaces atoms k S) (atom p) (differs S l p m ne) D),
         )
 
-module _ (rows atoms : List ℕ) (k x p : ℕ) (N : PlaceOf atoms k x p) where
-  pub with_own : (old new : List ℕ) (after size : ℕ) → p < k → Followers rows atoms k x after → Power k size → TableAfter old size p after new → WithEntry rows atoms k x old new
-  with_own old new after size l F E A =
-      record { turns = λ P s K T. table_own P rows atoms k K old new s x p after size l (N.found l) F E A T }
+module _ (rows atoms : List ℕ) (x : ℕ) where
+  pub with_own : (old new : List ℕ) (p after size : ℕ) → position (λ a. eqb a x) atoms ≡ Some p → Followers rows atoms (length atoms) x after → Power (length atoms) size → TableAfter old size p after new → WithEntry rows atoms (length atoms) x old new
+  with_own old new p after size e F E A =
+      let u = place_own atoms x p e in
+      record { turns = λ P s K T. table_own P rows atoms (length atoms) K old new s x p after size u.0 u.1 F E A T }
 
-  pub with_other : (old : List ℕ) → k ≤ p → WithEntry rows atoms k x old old
-  with_other old l = record { turns = λ P s K T. table_other P rows atoms k K old s x (N.absent l) T }
+  pub with_other : (old : List ℕ) → position (λ a. eqb a x) atoms ≡ None → WithEntry rows atoms (length atoms) x old old
+  with_other old e = record { turns = λ P s K T. table_other P rows atoms (length atoms) K old s x (place_none atoms x e) T }

@@ -4,11 +4,12 @@
 ghost use Rattle.std.specs.Prelude.{◌≡◌, true, ◌≤◌, ◌<◌, length, get_or};
 ghost use Rattle.bits.specs.inner.Sets.{has};
 ghost use Rattle.bits.specs.inner.Listed.{Low};
-ghost use Rattle.chain_rows.specs.inner.Subsets.{Roomy, RowAfter, NextWith, TableAfter, Followers, PlaceOf, Power, WithEntry};
+ghost use Rattle.chain_rows.specs.inner.Subsets.{Roomy, RowAfter, NextWith, TableAfter, Followers, Power, WithEntry};
 
-use bits::{has, intersection, subset, wide, with, with_if, without};
+use bits::{has, intersection, place_of, subset, with, with_if, without};
 
 // The row of a set with i after an entry at place i, which has edges to the places `after`.
+#[tactic(auto, using(crate::proofs::Rows::row_covered, crate::proofs::Rows::row_lacking))]
 fn row_after(table: &[u64], set: usize, i: usize, after: u64) -> u64
     requires { (set < length table.now) × (i < 64) × (has set i ≡ true) }
     ensures { RowAfter table.now set i after result }
@@ -22,6 +23,7 @@ fn row_after(table: &[u64], set: usize, i: usize, after: u64) -> u64
 }
 
 // How many sets of k places there are.
+#[tactic(auto, using(crate::proofs::Places::power_is))]
 pub fn power(k: usize) -> usize
     requires { k ≤ 10 }
     ensures { Power k result }
@@ -57,44 +59,26 @@ fn leads(rows: &[u64; 64], x: usize, a: usize) -> bool
     has(rows[a], x)
 }
 
-// The places, among the first k atoms, that x has edges to.
-pub fn followers(rows: &[u64; 64], atoms: &[u8; 16], k: usize, x: usize) -> u64
-    requires { (k ≤ 16) × Low atoms.now k × (x < 64) }
-    ensures { Followers rows.now atoms.now k x result }
+// The places of the atoms that x has edges to.
+#[tactic(auto, using(crate::proofs::Places::following_start, crate::proofs::Places::following_turn, crate::proofs::Places::following_end))]
+pub fn followers(rows: &[u64; 64], atoms: &[u8], x: usize) -> u64
+    requires { (length atoms.now ≤ 16) × Low atoms.now (length atoms.now) × (x < 64) }
+    ensures { Followers rows.now atoms.now (length atoms.now) x result }
 {
     let mut set: u64 = 0;
-    let mut p = 0;
-    while p < k {
-        let b = leads(rows, x, wide(atoms[p]));
-        set = with_if(set, p, b);
-        p += 1;
+    for (p, &a) in atoms.iter().enumerate() {
+        set = with_if(set, p, leads(rows, x, usize::from(a)));
     }
     set
 }
 
-// The place of x among the first k atoms, or k.
-pub fn place_of(atoms: &[u8; 16], k: usize, x: usize) -> usize
-    requires { k ≤ 16 }
-    ensures { PlaceOf atoms.now k x result }
-{
-    let mut p = 0;
-    while p < k {
-        if wide(atoms[p]) == x {
-            return p;
-        }
-        p += 1;
-    }
-    k
-}
-
 // One entry more, in front of those read.
-pub fn enter(table: &mut [u64], rows: &[u64; 64], atoms: &[u8; 16], k: usize, x: usize)
-    requires { Roomy k (length table.old) × Low atoms.now k × (x < 64) }
-    ensures { WithEntry rows.now atoms.now k x table.old table.new }
+#[tactic(auto, using(crate::proofs::Turning::with_own, crate::proofs::Turning::with_other))]
+pub fn enter(table: &mut [u64], rows: &[u64; 64], atoms: &[u8], x: usize)
+    requires { Roomy (length atoms.now) (length table.old) × Low atoms.now (length atoms.now) × (x < 64) }
+    ensures { WithEntry rows.now atoms.now (length atoms.now) x table.old table.new }
 {
-    let p = place_of(atoms, k, x);
-    if p < k {
-        let after = followers(rows, atoms, k, x);
-        step(table, power(k), p, after);
+    if let Some(p) = place_of(atoms, x) {
+        step(table, power(atoms.len()), p, followers(rows, atoms, x));
     }
 }

@@ -1,17 +1,16 @@
--- Laws of the table emptied, and of the entries read into it.
+-- Laws of the entries read into a component's table, from the last to the first.
 use mathlib.Core.Bool.{true}
+use mathlib.Core.List.Memᴰ
 use mathlib.Core.List.Sublistᴰ
-use mathlib.Core.List.{List, [], ◌∷◌, Memᴰ, Sublistᴰ}
+use mathlib.Core.List.{List, [], ◌∷◌, ◌++◌, append-nil, append_assoc, Memᴰ, Sublistᴰ}
 use mathlib.Core.Path.{◌≡◌, refl, sym, ◌∙◌, ap, subst}
 use Prim.Native.Nat.{ℕ, zero, suc, ◌+◌, ◌-◌, ◌^◌, ◌≤◌, ◌<◌}
 use native.Mathlib.Omega.{arith}
-use borrow.Author.Tests.{eqb-true, eqb-false}
-use lib.Dec.{eqb}
-use lib.ListN.{length, get_or, drop, set}
-use lib.Seq.{drop-cons, drop-drop, drop-length, get_or-set_same, get_or-set_other}
+use lib.ListN.{length, get_or, drop, take, length-drop}
+use lib.Seq.{drop-drop, take_all}
 use Rattle.lists.specs.Lists.{below}
-use Rattle.lists.proofs.Bools.{by_bool, true_false}
-use Rattle.lists.proofs.Members.{below_at, below_in}
+use Rattle.lists.proofs.Bools.{true_false}
+use Rattle.lists.proofs.Members.{below_at}
 use Rattle.lists.proofs.Sublists.{mem_sublist}
 use Rattle.asp.specs.Program.{Program}
 use Rattle.unfolding.proofs.Starting.{started_none}
@@ -19,21 +18,6 @@ use Rattle.bits.specs.inner.Sets.{has}
 use Rattle.bits.proofs.Digits.{zero_has}
 use Rattle.chain_rows.specs.inner.Subsets.{Setting, AtPlaces, SubsetTable, Power, WithEntry}
 use Rattle.chain_table.specs.inner.Filled.{Cleared, Filled}
-
--- A row more is empty.
-module _ (S : ℕ) (cur : List ℕ) (K : Cleared S cur) where
-  pub cleared_turn : S < length cur → Cleared (S + 1) (set cur S 0)
-  cleared_turn l =
-      record {
-        empty = λ T m. by_bool (eqb T S) (λ q. rw (eqb-true T S q, get_or-set_same cur S 0 0 l) refl)
-            (λ q. let ne = eqb-false T S q in get_or-set_other cur S T 0 0 (λ e. absurd (omega arith)) ∙ K.empty T (omega arith));
-      }
-
-  pub cleared_end : (size : ℕ) → size ≤ S → Cleared size cur
-  cleared_end size l = record { empty = λ T m. K.empty T (omega arith) }
-
-pub cleared_start : (cur : List ℕ) → Cleared 0 cur
-cleared_start cur = record { empty = λ T l. absurd (omega arith) }
 
 -- Before the first entry nothing is found.
 table_start : (P : Program) (rows atoms : List ℕ) (k : ℕ) → Setting P rows atoms k → (table : List ℕ) → ((S : ℕ) → S < 2 ^ k → get_or table S 0 ≡ 0) → SubsetTable P atoms k table []
@@ -45,48 +29,38 @@ table_start P rows atoms k K table z =
       );
     }
 
--- The entries from i on are read, of those from a place on.
-pub record Reading (rows atoms : List ℕ) (k : ℕ) (q : List ℕ) (from i : ℕ) (table : List ℕ) : Type 0 where
-  pub start : from ≤ i
-  pub inside : i ≤ length q
-  pub read : (P : Program) → Setting P rows atoms k → SubsetTable P atoms k table (drop i q)
+-- The entries from a position on that are done are read into the table, and the rest is left.
+pub record Reading (rows atoms : List ℕ) (k : ℕ) (q : List ℕ) (from : ℕ) (rest table : List ℕ) : Type 0 where
+  pub done : List ℕ
+  pub whole : rest ++ done ≡ drop from q
+  pub read : (P : Program) → Setting P rows atoms k → SubsetTable P atoms k table done
 
-module _ (rows atoms : List ℕ) (k : ℕ) (q : List ℕ) where
-  pub reading_start : (from size : ℕ) (table : List ℕ) → Power k size → Cleared size table → from ≤ length q → Reading rows atoms k q from (length q) table
-  reading_start from size table N Z l =
+module _ (rows atoms : List ℕ) (k : ℕ) (q : List ℕ) (from : ℕ) where
+  pub reading_start : (size : ℕ) (rest table : List ℕ) → Power k size → Cleared size table → rest ≡ take (length q - from) (drop from q) → Reading rows atoms k q from rest table
+  reading_start size rest table N Z e =
       record {
-        start = l;
-        inside = omega arith;
-        read = λ P K. subst (SubsetTable P atoms k table) (sym (drop-length q)) (table_start P rows atoms k K table (λ S m. Z.empty S (let e = N.is in omega arith)));
+        done = [];
+        whole = append-nil rest ∙ (e ∙ take_all (length q - from) (drop from q) (let e = length-drop from q in omega arith));
+        read = λ P K. table_start P rows atoms k K table (λ S m. Z.empty S (let e = N.is in omega arith));
       }
 
-  pub reading_turn : (from i x : ℕ) (old new : List ℕ) → Reading rows atoms k q from i old → from < i → x ≡ get_or q (i - 1) 0 → WithEntry rows atoms k x old new → Reading rows atoms k q from (i - 1) new
-  reading_turn from i x old new R l is E =
-      let h = R.inside in
-      record {
-        start = omega arith;
-        inside = omega arith;
-        read = λ P K. subst (SubsetTable P atoms k new) (ap (λ y. y ∷ drop i q) is ∙ (ap (λ j. get_or q (i - 1) 0 ∷ drop j q) (let e : i ≡ suc (i - 1) = omega arith in e) ∙ sym (drop-cons q (i - 1) 0 (omega arith))))
-            (E.turns P (drop i q) K (R.read P K));
-      }
+  module _ (x y : ℕ) (rest left table : List ℕ) (R : Reading rows atoms k q from rest table) (e : rest ≡ left ++ y ∷ []) (is : x ≡ y) where
+    pub reading_turn : (new : List ℕ) → WithEntry rows atoms k x table new → Reading rows atoms k q from left new
+    reading_turn new E =
+        record { done = x ∷ R.done; whole = ap (λ a. left ++ a ∷ R.done) is ∙ (sym (append_assoc left (y ∷ []) R.done) ∙ (ap (λ l. l ++ R.done) (sym e) ∙ R.whole)); read = λ P K. E.turns P R.done K (R.read P K) }
 
-  pub reading_end : (from i : ℕ) (table : List ℕ) → Reading rows atoms k q from i table → i ≤ from → Filled rows atoms k (drop from q) table
-  reading_end from i table R l =
-      let h = R.start in
-      record { is = λ P K. subst (λ j. SubsetTable P atoms k table (drop j q)) (let e : i ≡ from = omega arith in e) (R.read P K) }
+    -- What the code asks on the way: an entry is an atom.
+    pub reading_low : 3 ≤ from → below 64 (drop 3 q) ≡ true → x < 64
+    reading_low l h = below_at 64 (drop 3 q) h x (mem_sublist later (subst (Memᴰ x) R.whole (Memᴰ.append_left R.done (subst (Memᴰ x) (sym e) (Memᴰ.append_right left (Memᴰ.head is))))))
+      where
+        shorter : (k : ℕ) (l : List ℕ) → Sublistᴰ (drop k l) l
+        shorter zero l = Sublistᴰ.refl l
+        shorter (suc k) [] = Sublistᴰ.refl []
+        shorter (suc k) (y ∷ l) = Sublistᴰ.cons (shorter k l)
 
--- What the code asks on the way: an entry is an atom.
-pub reading_low : (rows atoms : List ℕ) (k : ℕ) (q : List ℕ) (from i x : ℕ) (table : List ℕ) → Reading rows atoms k q from i table → 3 ≤ from → from < i → below 64 (drop 3 q) ≡ true → x ≡ get_or q (i - 1) 0 → x < 64
-reading_low rows atoms k q from i x table R few l h is =
-    let n = R.inside in
-    let j = i - 1 in
-    subst (λ y. y < 64) (sym is)
-    (below_at 64 (drop j q) (below_in 64 (drop j q) (λ a n. below_at 64 (drop 3 q) h a (mem_sublist later n))) (get_or q j 0) (subst (Memᴰ (get_or q j 0)) (sym (drop-cons q j 0 (omega arith))) (Memᴰ.head refl)))
-  where
-    shorter : (k : ℕ) (l : List ℕ) → Sublistᴰ (drop k l) l
-    shorter zero l = Sublistᴰ.refl l
-    shorter (suc k) [] = Sublistᴰ.refl []
-    shorter (suc k) (y ∷ l) = Sublistᴰ.cons (shorter k l)
+        later : Sublistᴰ (drop from q) (drop 3 q)
+        later = subst (λ d. Sublistᴰ d (drop 3 q)) (drop-drop (from - 3) 3 q ∙ ap (λ i. drop i q) (let e : 3 + (from - 3) ≡ from = omega arith in e)) (shorter (from - 3) (drop 3 q))
 
-    later : Sublistᴰ (drop (i - 1) q) (drop 3 q)
-    later = subst (λ d. Sublistᴰ d (drop 3 q)) (drop-drop (i - 1 - 3) 3 q ∙ ap (λ i. drop i q) (let e : 3 + (i - 1 - 3) ≡ i - 1 = omega arith in e)) (shorter (i - 1 - 3) (drop 3 q))
+  pub reading_end : (rest table : List ℕ) → Reading rows atoms k q from rest table → length rest ≡ 0 → Filled rows atoms k (drop from q) table
+  reading_end [] table R e = record { is = λ P K. subst (SubsetTable P atoms k table) R.whole (R.read P K) }
+  reading_end (y ∷ rest) table R e = absurd (omega arith)

@@ -7,7 +7,6 @@ ghost use Rattle.bits.specs.inner.Listed.{Low};
 ghost use Rattle.chain_rows.specs.inner.Subsets.{Roomy};
 ghost use Rattle.chain_table.specs.inner.Filled.{Cleared, Filled};
 
-use bits::wide;
 use chain_rows::{enter, power};
 
 // Empties all rows below a size.
@@ -15,22 +14,17 @@ fn clear(table: &mut [u64], size: usize)
     requires { size ≤ length table.old }
     ensures { Cleared size table.new }
 {
-    let mut set = 0;
-    while set < size {
-        table[set] = 0;
-        set += 1;
-    }
+    table[..size].fill(0);
 }
 
-// Fills the table for a component, the first k atoms, by the entries from a position of the sequence on.
-pub fn fill(table: &mut [u64], rows: &[u64; 64], atoms: &[u8; 16], k: usize, q: &[u8], from: u16)
-    requires { Roomy k (length table.old) × Low atoms.now k × (3 ≤ from) × (from ≤ length q.now) × (below 64 (drop 3 q.now) ≡ true) }
-    ensures { Filled rows.now atoms.now k (drop from q.now) table.new }
+// Fills the table for a component by the entries from a position of the sequence on.
+#[tactic(auto, using(crate::proofs::Filling::reading_start, crate::proofs::Filling::reading_turn))]
+pub fn fill(table: &mut [u64], rows: &[u64; 64], atoms: &[u8], q: &[u8], from: u16)
+    requires { Roomy (length atoms.now) (length table.old) × Low atoms.now (length atoms.now) × (3 ≤ from) × (from ≤ length q.now) × (below 64 (drop 3 q.now) ≡ true) }
+    ensures { Filled rows.now atoms.now (length atoms.now) (drop from q.now) table.new }
 {
-    clear(table, power(k));
-    let mut i = q.len();
-    while (from as usize) < i {
-        i -= 1;
-        enter(table, rows, atoms, k, wide(q[i]));
+    clear(table, power(atoms.len()));
+    for &x in q[usize::from(from)..].iter().rev() {
+        enter(table, rows, atoms, usize::from(x));
     }
 }

@@ -8,7 +8,8 @@ use native.Mathlib.Omega.{arith}
 use borrow.Author.Tests.{eqb-true, eqb-false, eq-eqb, ltb-true, lt-ltb}
 use lib.Dec.{eqb, ltb}
 use lib.ListN.{length, get_or, take, drop, length-drop}
-use lib.Seq.{take_all}
+use lib.Seq.{take_all, get_or-take}
+use Rattle.std.proofs.lemmas.List.{length-take}
 use Rattle.lists.specs.Lists.{below, filter, range}
 use Rattle.lists.proofs.Bools.{by_bool, true_false, is_false, and_intro, and_left, and_right}
 use Rattle.lists.proofs.Members.{below_at, below_more, member_out, member_in, filter_in, range_in}
@@ -20,31 +21,29 @@ use Rattle.unfolding.specs.Chain.{Chain, passes}
 use Rattle.unfolding.proofs.Reach.{same_refl, same_below, component_smallest, component_same, component_joins}
 use Rattle.unfolding.proofs.Chains.{component_at, chain_one, passes_iff}
 use Rattle.bits.specs.inner.Sets.{has, Gathered, Size, Subset}
-use Rattle.bits.specs.inner.Listed.{Listing}
 use Rattle.bits.specs.inner.Visited.{listed}
-use Rattle.bits.specs.declared.Atoms.{Atoms}
 use Rattle.bits.proofs.Listing.{listed_has, listed_place, listed_apart}
 use Rattle.chain_rows.specs.inner.Subsets.{Roomy, Setting}
 use Rattle.chains.specs.inner.Components.{Tested, Edged, Members, ComponentTested, SetTested, Graph, Small, PassesBy}
 
 -- A component's atoms, listed.
-module _ (x : ℕ) (L : Atoms) (S : Listing x L) (P : Program) (c : ℕ) (rows : List ℕ) (G : Edged P rows) (M : Members P c x) where
+module _ (x : ℕ) (L : List ℕ) (S : L ≡ listed x) (P : Program) (c : ℕ) (rows : List ℕ) (G : Edged P rows) (M : Members P c x) where
   abbrev atom : ℕ → ℕ
-  atom p = get_or L.atoms p 0
+  atom p = get_or L p 0
 
   member_low : (a : ℕ) → has x a ≡ true → a < P.atoms
   member_low a t = ltb-true a P.atoms (and_left (ltb a P.atoms) (eqb (component P a) c) (sym (M.members a) ∙ t))
 
-  atom_low : (p : ℕ) → p < L.t → atom p < P.atoms
+  atom_low : (p : ℕ) → p < length L → atom p < P.atoms
   atom_low p l = member_low (atom p) (listed_has x L S p l)
 
-  pub atom_named : (p : ℕ) → p < L.t → component P (atom p) ≡ c
+  pub atom_named : (p : ℕ) → p < length L → component P (atom p) ≡ c
   atom_named p l = eqb-true (component P (atom p)) c (and_right (ltb (atom p) P.atoms) (eqb (component P (atom p)) c) (sym (M.members (atom p)) ∙ listed_has x L S p l))
 
-  pub named_place : (a : ℕ) → a < P.atoms → component P a ≡ c → (p : ℕ) × (p < L.t) × (atom p ≡ a)
+  pub named_place : (a : ℕ) → a < P.atoms → component P a ≡ c → (p : ℕ) × (p < length L) × (atom p ≡ a)
   named_place a l e = let h = G.low in listed_place x L S a (omega arith) (M.members a ∙ and_intro (lt-ltb a P.atoms l) (eq-eqb (component P a) c e))
 
-  pub setting : Setting P rows L.atoms L.t
+  pub setting : Setting P rows L (length L)
   setting =
       record {
         formed = G.formed;
@@ -55,7 +54,7 @@ module _ (x : ℕ) (L : Atoms) (S : Listing x L) (P : Program) (c : ℕ) (rows :
         whole = λ p l b t. named_place b (same_below P G.formed (atom p) b (atom_low p l) t) (sym (component_same P G.formed (atom p) b (atom_low p l) t) ∙ atom_named p l);
       }
 
-  component_tested : (s : List ℕ) (r : Bool) → Tested rows L.atoms L.t s r → ComponentTested P c s r
+  component_tested : (s : List ℕ) (r : Bool) → Tested rows L (length L) s r → ComponentTested P c s r
   component_tested s r T = record { is = (there, back) }
     where
       there : r ≡ true → (a : ℕ) (w : List ℕ) → Chain P (a ∷ w) → component P a ≡ c → Sublistᴰ (a ∷ w) s
@@ -66,11 +65,11 @@ module _ (x : ℕ) (L : Atoms) (S : Listing x L) (P : Program) (c : ℕ) (rows :
       back : ((a : ℕ) (w : List ℕ) → Chain P (a ∷ w) → component P a ≡ c → Sublistᴰ (a ∷ w) s) → r ≡ true
       back h = (T.is P setting).1 (λ p l w C. h (atom p) w C (atom_named p l))
 
-module _ (x : ℕ) (L : Atoms) (S : Listing x L) where
-  pub places_roomy : (rows : ℕ) → Roomy (length (listed x)) rows → Roomy L.t rows
-  places_roomy rows R = subst (λ k. Roomy k rows) (sym S.size) R
+module _ (x : ℕ) (L : List ℕ) (S : L ≡ listed x) where
+  pub places_roomy : (rows : ℕ) → Roomy (length (listed x)) rows → Roomy (length L) rows
+  places_roomy rows R = subst (λ l. Roomy (length l) rows) (sym S) R
 
-  pub set_tested : (rows s : List ℕ) (r : Bool) → Tested rows L.atoms L.t s r → SetTested rows x s r
+  pub set_tested : (rows s : List ℕ) (r : Bool) → Tested rows L (length L) s r → SetTested rows x s r
   set_tested rows s r T = record { is = λ P c G M. component_tested x L S P c rows G M s r T }
 
 -- A component of at most one atom has no chain but that atom.
@@ -149,9 +148,9 @@ module _ (n : ℕ) (rows sets s : List ℕ) where
   pub asking_start : Asking n rows sets s 0
   asking_start = record { sofar = λ P G. sofar_start P G.edged.formed s }
 
-  module _ (c : ℕ) (b : Bool) (A : Asking n rows sets s c) (l : c < n) (low : n ≤ 64) (T : SetTested rows (get_or sets c 0) s b) where
+  module _ (c : ℕ) (b : Bool) (A : Asking n rows sets s c) (l : c < length (take n sets)) (low : n ≤ 64) (T : SetTested rows (get_or (take n sets) c 0) s b) where
     tested : (P : Program) → Graph P n rows sets → ComponentTested P c s b
-    tested P G = T.is P c G.edged (G.grouped c (omega arith))
+    tested P G = let within : c < n = omega (arith, length-take n sets) in T.is P c G.edged (rw (get_or-take n sets c 0 within) (G.grouped c (omega arith)))
 
     pub asking_turn : b ≡ true → Asking n rows sets s (c + 1)
     asking_turn t = record { sofar = λ P G. sofar_turn P G.edged.formed s c b (A.sofar P G) (tested P G) t }
@@ -162,8 +161,10 @@ module _ (n : ℕ) (rows sets s : List ℕ) where
   pub asking_end : (c : ℕ) → Asking n rows sets s c → n ≤ c → PassesBy n rows sets s true
   asking_end c A l = record { is = λ P G. sofar_end P G.edged.formed s c (A.sofar P G) (let e = G.size in omega arith) }
 
-pub component_roomy : (n : ℕ) (sets : List ℕ) (rows c r : ℕ) → Small n sets rows → c < n → r ≡ rows → Roomy (length (listed (get_or sets c 0))) r
-component_roomy n sets rows c r S l e = subst (Roomy (length (listed (get_or sets c 0)))) (sym e) (S.few c l)
+pub component_roomy : (n : ℕ) (sets : List ℕ) (rows c r : ℕ) → Small n sets rows → c < length (take n sets) → r ≡ rows → Roomy (length (listed (get_or (take n sets) c 0))) r
+component_roomy n sets rows c r S l e =
+    let within : c < n = omega (arith, length-take n sets) in
+    rw (e, get_or-take n sets c 0 within) (S.few c within)
 
 -- The entries behind the header, as the code has them.
 module _ (q : List ℕ) where

@@ -13,28 +13,19 @@ use bits::{gather, list_set, size, subset};
 use chain_rows::power;
 use chain_table::fill;
 
-// Is every chain of a component, the first k atoms, found in the sequence?
-fn chains_found(table: &mut [u64], rows: &[u64; 64], atoms: &[u8; 16], k: usize, q: &[u8]) -> bool
-    requires { Roomy k (length table.old) × Low atoms.now k × (3 ≤ length q.now) × (below 64 (drop 3 q.now) ≡ true) }
-    ensures { Tested rows.now atoms.now k (drop 3 q.now) result }
+// Is every chain of a component found in the sequence?
+#[tactic(auto, using(crate::proofs::Testing::filled_tested))]
+fn chains_found(table: &mut [u64], rows: &[u64; 64], atoms: &[u8], q: &[u8]) -> bool
+    requires { Roomy (length atoms.now) (length table.old) × Low atoms.now (length atoms.now) × (3 ≤ length q.now) × (below 64 (drop 3 q.now) ≡ true) }
+    ensures { Tested rows.now atoms.now (length atoms.now) (drop 3 q.now) result }
 {
-    fill(table, rows, atoms, k, q, 3);
-    let full = power(k) - 1;
+    fill(table, rows, atoms, q, 3);
+    let full = power(atoms.len()) - 1;
     subset(full as u64, table[full])
 }
 
-// Is every chain of the component with these atoms found in the sequence? By the table.
-fn table_found(table: &mut [u64], rows: &[u64; 64], x: u64, q: &[u8]) -> bool
-    requires { Roomy (length (listed x)) (length table.old) × (3 ≤ length q.now) × (below 64 (drop 3 q.now) ≡ true) }
-    ensures { SetTested rows.now x (drop 3 q.now) result }
-{
-    let list = list_set(x);
-    let atoms = list.atoms;
-    let k = list.t;
-    chains_found(table, rows, &atoms, k, q)
-}
-
-// The same, with the set of the sequence's atoms: an atom alone has one chain, itself.
+// Is every chain of the component with these atoms found in the sequence, which has the set `entries` of atoms? An atom alone has one chain, itself.
+#[tactic(auto, using(bits::proofs::Listing::listed_low, crate::proofs::Components::places_roomy, crate::proofs::Components::set_tested))]
 fn component_found(table: &mut [u64], rows: &[u64; 64], x: u64, q: &[u8], entries: u64) -> bool
     requires { Roomy (length (listed x)) (length table.old) × (3 ≤ length q.now) × (below 64 (drop 3 q.now) ≡ true) × Gathered (drop 3 q.now) entries }
     ensures { SetTested rows.now x (drop 3 q.now) result }
@@ -42,21 +33,20 @@ fn component_found(table: &mut [u64], rows: &[u64; 64], x: u64, q: &[u8], entrie
     if size(x) <= 1 {
         return subset(x, entries);
     }
-    table_found(table, rows, x, q)
+    chains_found(table, rows, &list_set(x), q)
 }
 
 // The chain question, of a program of n atoms with its edges and the sets of its components. The table is filled anew for each component.
+#[tactic(auto, using(crate::proofs::Components::asking_start, crate::proofs::Components::asking_turn, crate::proofs::Components::asking_fails, crate::proofs::Components::asking_end, crate::proofs::Components::entries_low))]
 pub fn passes(table: &mut [u64], n: usize, rows: &[u64; 64], sets: &[u64; 64], q: &[u8]) -> bool
     requires { (n ≤ 64) × Small n sets.now (length table.old) × (3 ≤ length q.now) × (below n (drop 3 q.now) ≡ true) }
     ensures { PassesBy n rows.now sets.now (drop 3 q.now) result }
 {
     let entries = gather(&q[3..]);
-    let mut c = 0;
-    while c < n {
-        if !component_found(table, rows, sets[c], q, entries) {
+    for &x in &sets[..n] {
+        if !component_found(table, rows, x, q, entries) {
             return false;
         }
-        c += 1;
     }
     true
 }

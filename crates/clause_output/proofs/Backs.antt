@@ -9,7 +9,7 @@ use Rattle.unfolding.specs.Clauses.{constraint_clause, clause_words, signed_word
 use Rattle.program.specs.inner.Held.{table_rule}
 use Rattle.program.specs.declared.TableRule.{TableRule}
 use Rattle.writer.specs.inner.Wrote.{Wrote}
-use Rattle.writer.proofs.Loops.{flat_map_map, RangeLeft, range_start, range_turn, range_room, range_length, range_end}
+use Rattle.writer.proofs.Loops.{flat_map_map, RangeLeft, range_turn, range_room, range_end}
 use Rattle.copies.specs.inner.Bodies.{entry_body}
 use Rattle.rule_clauses.specs.inner.Literals.{back_words}
 use Rattle.clause_output.specs.inner.Words.{backs_words}
@@ -31,9 +31,6 @@ module _ (t p vars : List ℕ) (old : List ℤ) (at from to : ℕ) where
       sym (ap (flat_map clause_words) (map-map constraint_clause (entry_body t p vars) (range from (to - from)))
       ∙ flat_map_map clause_words (λ j. constraint_clause (entry_body t p vars j)) (range from (to - from)))
 
-  pub backs_start : BacksLeft t p vars old at from to old at from
-  backs_start = range_start f old at from to
-
   module _ (cur : List ℤ) (next j : ℕ) (L : BacksLeft t p vars old at from to cur next j) where
     module _ (lt : j < to) (r : TableRule) (e : r ≡ table_rule t p j) where
       pub backs_room : at + length (backs_words t p vars from to) ≤ length old → next + length (back_words vars r) ≤ length cur
@@ -41,9 +38,6 @@ module _ (t p vars : List ℕ) (old : List ℤ) (at from to : ℕ) where
 
       pub backs_turn : (new : List ℤ) (behind : ℕ) → Wrote cur next (back_words vars r) new behind → BacksLeft t p vars old at from to new behind (j + 1)
       backs_turn new behind W = range_turn f old at from to cur next j L lt new behind (subst (λ x. Wrote cur next (back_words vars x) new behind) e W)
-
-    pub backs_length : length cur ≡ length old
-    backs_length = range_length f old at from to cur next j L
 
     pub backs_end : to ≤ j → Wrote old at (backs_words t p vars from to) cur next
     backs_end l = subst (λ ws. Wrote old at ws cur next) backs_are (range_end f old at from to cur next j L l)

@@ -4,7 +4,7 @@ use mathlib.Core.Path.{◌≡◌, refl, sym, ◌∙◌, ap, subst}
 use Prim.Native.Nat.{ℕ, suc, ◌+◌, ◌-◌, ◌≤◌, ◌<◌}
 use native.Mathlib.Omega.{arith}
 use lib.IntN.{ℤ}
-use lib.ListN.{length, length-append, replicate}
+use lib.ListN.{length, length-append, replicate, take}
 use Rattle.asp.specs.Program.{Body}
 use Rattle.unfolding.specs.Unfolded.{Copy, Unfolded, last}
 use Rattle.unfolding.specs.Clauses.{copy_clauses, copies_clauses, constraint_clause, clauses, signed_words}
@@ -35,7 +35,8 @@ pub record ClausesLeft (old ws cur : List ℤ) (E : Ends) (copies : List Copy) :
 -- The loop over the copies, with what was asked for.
 pub record ClausesWritten (t : ProgramTable) (components q lasts : List ℕ) (old : List ℤ)
     (i keeping : ℕ) (list latest : List ℕ) (highest : ℕ) (cur : List ℤ) (E : Ends) : Type 0 where
-  pub asked : CopiesReady t components q lasts old
+  pub ready : Ready t components q
+  pub asked : CopiesReady (unfolded_in t q) lasts old
   pub emitting : Emitting t q i keeping list latest highest (ClausesLeft old (copies_clause_words (unfolded_in t q)) cur E)
 
 module _ (size : ProgramSize) (records program components q lasts : List ℕ) (old : List ℤ) where
@@ -45,17 +46,17 @@ module _ (size : ProgramSize) (records program components q lasts : List ℕ) (o
   abbrev total : List ℤ
   total = copies_clause_words (unfolded_in t q)
 
-  pub copies_start : CopiesReady (table_of size records program) components q lasts old
+  pub copies_start : Ready (table_of size records program) components q → CopiesReady (unfolded_in (table_of size records program) q) lasts old
       → ClausesWritten (table_of size records program) components q lasts old 3 0 (replicate 192 0) (replicate 64 0) size.atoms old (record { at = 0; rule = length q - 2 })
   unfolding copies_clause_words
-  copies_start A =
-      let R = A.ready in
+  copies_start R A =
       let k = copies_number t components q R in
       let l = R.long in
       let s = R.short in
       let g = rules_short t components q R in
       let e : length q - 2 ≡ suc (length (unfolded_in t q).copies) = omega arith in
       record {
+        ready = R;
         asked = A;
         emitting = emitting_start t components q R (ClausesLeft old total old (record { at = 0; rule = length q - 2 }))
             (record { few = omega arith; rest = left_start old 0 total _ (ap (λ d. signed_words (copies_clauses d (unfolded_in t q).copies)) e) });
@@ -71,34 +72,37 @@ module _ (size : ProgramSize) (records program components q lasts : List ℕ) (o
 
     pub copies_end : length q ≤ i → Wrote old 0 (copies_clause_words (unfolded_in (table_of size records program) q)) cur E.at
     unfolding copies_clauses signed_words flat_map
-    copies_end l = left_end old 0 total cur [] E.at (emitting_end t components q W.asked.ready i keeping before latest highest Rest W.emitting l).rest refl
+    copies_end l = left_end old 0 total cur [] E.at (emitting_end t components q W.ready i keeping before latest highest Rest W.emitting l).rest refl
 
     module _ (within : i < length q) where
       module _ (c : EntryCopy) (M : Made q i highest c) (list after vars : List ℕ) (r : CopyStep)
-          (N : CopyMade records program components latest lasts (record { entry = c; k = size.rules; keeping = keeping }) list after vars r) where
+          (N : CopyMade (table_of size records program) components latest lasts c keeping list after vars r) where
+        abbrev listed : List ℕ
+        listed = take r.kept list
+
         abbrev bodies : List Body
-        bodies = bodies_by records program vars list r.kept
+        bodies = bodies_by records program vars listed
 
         abbrev copy : Copy
         copy = record { atom = c.atom; var = c.var; kept = bodies }
 
         abbrev here : List ℤ
-        here = copy_clause_words records program vars E.rule c.var list r.kept
+        here = copy_clause_words records program vars E.rule c.var listed
 
-        step : (cs : List Copy) → signed_words (copies_clauses E.rule (copy ∷ cs)) ≡ here ++ signed_words (copies_clauses (E.rule + r.kept) cs)
+        step : (cs : List Copy) → signed_words (copies_clauses E.rule (copy ∷ cs)) ≡ here ++ signed_words (copies_clauses (E.rule + length listed) cs)
         unfolding copies_clauses copy_clauses copy_clause_words
         step cs =
             signed_append (copy_clauses E.rule copy) (copies_clauses (E.rule + length bodies) cs)
-            ∙ ap (λ n. here ++ signed_words (copies_clauses (E.rule + n) cs)) (bodies_number records program vars list r.kept)
+            ∙ ap (λ n. here ++ signed_words (copies_clauses (E.rule + n) cs)) (bodies_number records program vars listed)
 
-        pub copies_ready : CopyReady records program vars lasts (record { ends = E; var = c.var; kept = r.kept }) list cur
+        pub copies_ready : CopyReady records program vars lasts E c.var (take r.kept list) cur
         copies_ready =
-            let S = emitting_here t components q W.asked.ready i keeping before latest highest Rest W.emitting within c M lasts list after vars r N W.asked.by_last in
-            let v = emitting_var t components q W.asked.ready i keeping before latest highest Rest W.emitting within c M in
+            let S = emitting_here t components q W.ready i keeping before latest highest Rest W.emitting within c M lasts list after vars r N W.asked.by_last in
+            let v = emitting_var t components q W.ready i keeping before latest highest Rest W.emitting within c M in
             let f = W.emitting.left.rest.rest.few in
             let h = W.asked.room in
             record {
-              small = record { low = λ b l. let s = emitting_vars t components q W.asked.ready i keeping before latest highest Rest W.emitting within c M lasts list after vars r N W.asked.by_last b l in omega arith };
+              small = record { low = λ b l. let s = emitting_vars t components q W.ready i keeping before latest highest Rest W.emitting within c M lasts list after vars r N W.asked.by_last b l in omega arith };
               by_last = W.asked.by_last;
               inside = N.selected.kept.inside;
               var = omega arith;
@@ -107,17 +111,18 @@ module _ (size : ProgramSize) (records program components q lasts : List ℕ) (o
             }
 
         pub copies_turn : (new : List ℤ) (E' : Ends)
-            → CopyPut records program vars (record { ends = E; var = c.var; kept = r.kept }) list cur new E'
+            → CopyPut records program vars E c.var (take r.kept list) cur new E'
             → ClausesWritten (table_of size records program) components q lasts old (i + 1) r.keeping list after c.highest new E'
         unfolding flat_map
         copies_turn new E' P =
             record {
+              ready = W.ready;
               asked = W.asked;
-              emitting = emitting_turn t components q W.asked.ready i keeping before latest highest Rest W.emitting within c M lasts list after vars r N W.asked.by_last (ClausesLeft old total new E') one;
+              emitting = emitting_turn t components q W.ready i keeping before latest highest Rest W.emitting within c M lasts list after vars r N W.asked.by_last (ClausesLeft old total new E') one;
             }
           where
-            counted : (cs : List Copy) → length (kept_bodies (copy ∷ cs)) ≡ r.kept + length (kept_bodies cs)
-            counted cs = let e = length-append bodies (kept_bodies cs) in let f = bodies_number records program vars list r.kept in omega arith
+            counted : (cs : List Copy) → length (kept_bodies (copy ∷ cs)) ≡ length listed + length (kept_bodies cs)
+            counted cs = let e = length-append bodies (kept_bodies cs) in let f = bodies_number records program vars listed in omega arith
 
             one : (cs : List Copy) → ClausesLeft old total cur E (copy ∷ cs) → ClausesLeft old total new E' cs
             one cs L =
@@ -145,8 +150,8 @@ module _ (size : ProgramSize) (records program components q lasts : List ℕ) (R
     all_size : length (copies_clause_words u) + length backs ≤ length old
     all_size = let e = ap length all_are ∙ length-append (copies_clause_words u) backs in omega arith
 
-    pub all_first : CopiesReady (table_of size records program) components q lasts old
-    all_first = record { ready = R; by_last = F; room = let e = all_size in omega arith }
+    pub all_first : CopiesReady (unfolded_in (table_of size records program) q) lasts old
+    all_first = record { by_last = F; room = let e = all_size in omega arith }
 
     pub all_second : (mid : List ℤ) (at : ℕ) → Wrote old 0 (copies_clause_words (unfolded_in (table_of size records program) q)) mid at
         → at + length (backs_words records program lasts size.rules (size.rules + size.constraints)) ≤ length mid

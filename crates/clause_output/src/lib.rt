@@ -4,59 +4,34 @@
 ghost use Rattle.std.specs.Prelude.{◌+◌, ◌≤◌, length};
 ghost use Rattle.unfolding.specs.Unfolded.{last};
 ghost use Rattle.unfolding.specs.Clauses.{clauses, signed_words};
-ghost use Rattle.program.specs.inner.Held.{table_of};
 ghost use Rattle.writer.specs.inner.Wrote.{Wrote};
 ghost use Rattle.copies.specs.inner.Tables.{Values};
-ghost use Rattle.copies.specs.inner.Ready.{Ready, unfolded_in};
+ghost use Rattle.copies.specs.inner.Given.{ReadyIn, unfolded_by};
 ghost use Rattle.clause_output.specs.inner.Words.{copies_clause_words, backs_words, CopiesReady};
 
-use copies::{NewCopy, copy_at, last_copies, last_places, next_copy};
-use copy_clauses::{CopyPlace, Ends, put_copy};
-use program::{ProgramSize, rule_at};
+use copies::{Unfolding, copy_at, last_copies, last_places, next_copy};
+use copy_clauses::{Ends, put_copy};
 use rule_clauses::put_back;
-use tables::{Program, Table};
 
-// The clauses of all copies, in sequence order. For each atom there is the set of its component.
-fn put_copies(
-    out: &mut [i32],
-    size: ProgramSize,
-    records: &Table,
-    program: &Program,
-    q: &[u8],
-    components: &[u64; 64],
-    lasts: &[u32; 64],
-) -> usize
-    requires { CopiesReady (table_of size records.now program.now) components.now q.now lasts.now out.old }
-    ensures { Wrote out.old 0 (copies_clause_words (unfolded_in (table_of size records.now program.now) q.now)) out.new result }
+// The clauses of all copies, in sequence order.
+fn put_copies(out: &mut [i32], u: &Unfolding, lasts: &[u32; 64]) -> usize
+    requires { ReadyIn u.now × CopiesReady (unfolded_by u.now) lasts.now out.old }
+    ensures { Wrote out.old 0 (copies_clause_words (unfolded_by u.now)) out.new result }
 {
-    let table = last_places(q);
+    let places = last_places(u.q);
     let mut latest = [0u32; 64];
     let mut entries = [0u8; 192];
     let mut keeping: u64 = 0;
-    let mut highest = size.atoms as u32;
-    let rule = (q.len() - 2) as u32;
+    let mut highest = u.size.atoms as u32;
+    let rule = (u.q.len() - 2) as u32;
     let mut ends = Ends { at: 0, rule };
-    let mut i = 3;
-    while i < q.len() {
-        let entry = copy_at(q, i, &table.places, highest);
+    for i in 3..u.q.len() {
+        let entry = copy_at(u.q, i, &places, highest);
         highest = entry.highest;
-        i += 1;
-        let k = size.rules;
-        let copy = NewCopy { entry, k, keeping };
         let mut vars = *lasts;
-        let step = next_copy(
-            records,
-            program,
-            components,
-            &mut entries,
-            &mut latest,
-            &mut vars,
-            copy,
-        );
-        let var = entry.var;
-        let kept = step.kept;
-        let place = CopyPlace { ends, var, kept };
-        ends = put_copy(out, place, &entries, records, program, &vars, lasts);
+        let step = next_copy(u, &mut entries, &mut latest, &mut vars, entry, keeping);
+        let listed = &entries[..step.kept];
+        ends = put_copy(out, ends, entry.var, u, listed, &vars, lasts);
         keeping = step.keeping;
     }
     ends.at
@@ -68,40 +43,29 @@ fn put_backs(
     at: usize,
     from: usize,
     to: usize,
-    records: &Table,
-    program: &Program,
+    u: &Unfolding,
     lasts: &[u32; 64],
 ) -> usize
-    requires { Values last lasts.now × (to ≤ 192) × (at + length (backs_words records.now program.now lasts.now from to) ≤ length out.old) }
-    ensures { Wrote out.old at (backs_words records.now program.now lasts.now from to) out.new result }
+    requires { Values last lasts.now × (to ≤ 192) × (at + length (backs_words u.now.records.now u.now.program.now lasts.now from to) ≤ length out.old) }
+    ensures { Wrote out.old at (backs_words u.now.records.now u.now.program.now lasts.now from to) out.new result }
 {
     let mut next = at;
-    let mut j = from;
-    while j < to {
-        let rule = rule_at(records, program, j);
+    for j in from..to {
+        let rule = u.rule_at(j);
         next = put_back(out, next, rule, lasts, lasts);
-        j += 1;
     }
     next
 }
 
 // All clauses.
-pub fn put_clauses(
-    out: &mut [i32],
-    size: ProgramSize,
-    records: &Table,
-    program: &Program,
-    q: &[u8],
-    components: &[u64; 64],
-) -> usize
-    requires { Ready (table_of size records.now program.now) components.now q.now
-        × (length (signed_words (clauses (unfolded_in (table_of size records.now program.now) q.now))) ≤ length out.old) }
-    ensures { Wrote out.old 0 (signed_words (clauses (unfolded_in (table_of size records.now program.now) q.now)))
+pub fn put_clauses(out: &mut [i32], u: &Unfolding) -> usize
+    requires { ReadyIn u.now × (length (signed_words (clauses (unfolded_by u.now))) ≤ length out.old) }
+    ensures { Wrote out.old 0 (signed_words (clauses (unfolded_by u.now)))
         out.new result }
 {
-    let from = size.rules;
-    let to = from + size.constraints;
-    let table = last_copies();
-    let at = put_copies(out, size, records, program, q, components, &table.vars);
-    put_backs(out, at, from, to, records, program, &table.vars)
+    let from = u.size.rules;
+    let to = from + u.size.constraints;
+    let lasts = last_copies();
+    let at = put_copies(out, u, &lasts);
+    put_backs(out, at, from, to, u, &lasts)
 }

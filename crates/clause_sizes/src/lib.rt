@@ -1,12 +1,10 @@
 // How many words, variables and clauses there are.
 #![tactic(auto)]
 
-ghost use Rattle.program.specs.inner.Held.{table_of};
-ghost use Rattle.copies.specs.inner.Ready.{Ready, unfolded_in};
+ghost use Rattle.copies.specs.inner.Given.{ReadyIn, unfolded_by};
 ghost use Rattle.clause_sizes.specs.inner.Numbers.{NumbersOf};
 
-use program::ProgramSize;
-use tables::{Program, Table};
+use copies::Unfolding;
 use totals::totals_of;
 
 // How many words the clauses have, how many variables, and how many clauses there are.
@@ -19,18 +17,12 @@ pub struct Numbers {
 
 // A copy has two words and one clause of its own, a rule six words, two clauses and a variable, an atom of its body four words
 // and a clause; a constraint is one clause, of one word and one for each atom.
-pub fn numbers_of(
-    size: ProgramSize,
-    records: &Table,
-    program: &Program,
-    q: &[u8],
-    components: &[u64; 64],
-) -> Numbers
-    requires { Ready (table_of size records.now program.now) components.now q.now }
-    ensures { NumbersOf (unfolded_in (table_of size records.now program.now) q.now) result }
+pub fn numbers_of(u: &Unfolding) -> Numbers
+    requires { ReadyIn u.now }
+    ensures { NumbersOf (unfolded_by u.now) result }
 {
-    let count = q.len() - 3;
-    let totals = totals_of(size, records, program, q, components);
+    let count = u.q.len() - 3;
+    let totals = totals_of(u);
     let rules = totals.rules;
     let atoms = totals.atoms;
     let constraints = totals.constraints;

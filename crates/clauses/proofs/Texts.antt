@@ -10,12 +10,14 @@ use lib.Dec.{eqb, leb}
 use lib.IntN.{ℤ, pos}
 use lib.ListN.{length, length-append, length-replicate, take, drop}
 use lib.Seq.{take-append_seam}
-use mir.Syntax.{w32}
-use mir.Val.{Fits}
 use Rattle.unfolding.specs.Clauses.{Literal, Clause, variable_of}
 use Rattle.unfolding.specs.Faithful.{clauses_of, variables_of}
 use Rattle.unfolding.specs.Claims.{Accepted}
 use Rattle.unfolding.proofs.Claims.{literals_are_numbered}
+use Rattle.std.proofs.Common.{Result, Ok, Err}
+use Rattle.refusals.specs.declared.Refusal.{Refusal}
+use Rattle.refusals.specs.Numbers.{number}
+use Rattle.refusals.proofs.Asking.{number_small}
 use Rattle.sheet.specs.Sequence.{entries}
 use Rattle.sheet.specs.Sheet.{program}
 use Rattle.sheet.specs.Questions.{first_refusal}
@@ -33,8 +35,7 @@ use Rattle.operations.specs.Outputs.{clauses_output, clause_numbers}
 use Rattle.operations.specs.Questions.{question9, question10}
 use Rattle.operations.specs.Calls.{with_sequence, integers, over, describe, input_questions, questions, Promised}
 use Rattle.operations.specs.Calls as call
-use Rattle.operations.specs.declared.ClausesAnswer.{ClausesAnswer}
-use Rattle.operations.specs.declared.ClausesAnswer.TheVariants as clauses
+use Rattle.operations.specs.declared.ClauseNumbers.{ClauseNumbers}
 use Rattle.operations.specs.inner.Refusals.{input_refusal, call_refusal}
 use Rattle.operations.proofs.Promises.{promised_number, promised_passed, promised_values, promised_written}
 use Rattle.guarantees.proofs.Accepting.{call_passed, both_accepted}
@@ -46,7 +47,7 @@ use Rattle.clauses.proofs.Sizes.{variables_few, clauses_few}
 prints_text : (input text old new : List ℕ) (next : ℕ) → Wrote old 0 text new next → length text ≤ length old → text ≡ printed input → Prints input new next
 prints_text input text old new next W l e = let front = wrote_front old text new next W l in record { inside = front.0; text = front.1 ∙ e }
 
-module _ (s q : List ℕ) (old new : List ℤ) (r : ClausesAnswer) (E : Promised office (call.clauses s q old) (from_clauses r) (integers new)) where
+module _ (s q : List ℕ) (old new : List ℤ) (r : Result ClauseNumbers Refusal) (E : Promised office (call.clauses s q old) (from_clauses r) (integers new)) where
   abbrev asked : ℕ
   asked = call_refusal office (call.clauses s q old)
 
@@ -54,11 +55,20 @@ module _ (s q : List ℕ) (old new : List ℤ) (r : ClausesAnswer) (E : Promised
   output = clauses_output s q
 
   -- The number of a refusal is that of the first question whose answer is no.
-  refused_says : (n : ℕ) → r ≡ clauses.Refused n → (n ≡ asked) × (eqb asked 0 ≡ false)
-  refused_says n e =
-      promised_number office (call.clauses s q old) (integers new) n (subst (λ o. Promised office (call.clauses s q old) o (integers new)) (ap from_clauses e) E)
+  refused_says : (x : Refusal) → r ≡ Err x → (number x ≡ asked) × (eqb asked 0 ≡ false)
+  refused_says x e =
+      promised_number office (call.clauses s q old) (integers new) (number x) (subst (λ o. Promised office (call.clauses s q old) o (integers new)) (ap from_clauses e) E)
 
-  module _ (k v c : ℕ) (e : r ≡ clauses.Written k v c) where
+  module _ (n : ClauseNumbers) (e : r ≡ Ok n) where
+    abbrev k : ℕ
+    k = n.words
+
+    abbrev v : ℕ
+    v = n.variables
+
+    abbrev c : ℕ
+    c = n.clauses
+
     promised : Promised office (call.clauses s q old) (answered (k ∷ v ∷ c ∷ [])) (integers new)
     promised = subst (λ o. Promised office (call.clauses s q old) o (integers new)) (ap from_clauses e) E
 
@@ -150,7 +160,7 @@ lent_size : length lent_words ≡ 16384
 unfolding lent_words
 lent_size = length-replicate 16384 (pos 0)
 
-module _ (input : List ℕ) (old new : List ℤ) (r : ClausesAnswer) (E : Promised office (call.clauses (sheet_of input) (sequence_of input) old) (from_clauses r) (integers new))
+module _ (input : List ℕ) (old new : List ℤ) (r : Result ClauseNumbers Refusal) (E : Promised office (call.clauses (sheet_of input) (sequence_of input) old) (from_clauses r) (integers new))
     (size : length old ≡ 16384) (before after : List ℕ) (next : ℕ) (room : 98352 ≤ length before) where
   asked_is : call_refusal office (call.clauses (sheet_of input) (sequence_of input) old) ≡ refusal input
   unfolding refusal describe questions
@@ -159,33 +169,35 @@ module _ (input : List ℕ) (old new : List ℤ) (r : ClausesAnswer) (E : Promis
       let q = sequence_of input in
       ap (λ room. first_refusal (input_questions office (with_sequence s q) ++ (question9 s q ∷ question10 (clauses_output s q) room ∷ []))) (size ∙ sym lent_size)
 
-  prints_refused : (n : ℕ) → r ≡ clauses.Refused n → Fits w32 n → Wrote before 0 (refused_text n) after next → Prints input after next
+  prints_refused : (x : Refusal) → r ≡ Err x → (n : ℕ) → n ≡ number x → Wrote before 0 (refused_text n) after next → Prints input after next
   unfolding printed
-  prints_refused n e f W =
-      let h = refused_says (sheet_of input) (sequence_of input) old new r E n e in
+  prints_refused x e n is W =
+      let small = number_small x in
+      let h = refused_says (sheet_of input) (sequence_of input) old new r E x e in
       let no : eqb (refusal input) 0 ≡ false = ap (λ k. eqb k 0) (sym asked_is) ∙ h.1 in
-      let l = refused_short n (record { fits = let g = f.fits in omega arith }) in
-      prints_text input (refused_text n) before after next W (omega arith) (ap refused_text (h.0 ∙ asked_is) ∙ sym (rw no refl))
+      let l = refused_short n (record { fits = omega arith }) in
+      prints_text input (refused_text n) before after next W (omega arith) (ap refused_text (is ∙ (h.0 ∙ asked_is)) ∙ sym (rw no refl))
 
-  prints_written : (k v c : ℕ) → r ≡ clauses.Written k v c → Wrote before 0 (header_text v c ++ words_text (take (k - 0) new)) after next
+  prints_written : (n : ClauseNumbers) → r ≡ Ok n → Wrote before 0 (header_text n.variables n.clauses ++ words_text (take (n.words - 0) new)) after next
       → Prints input after next
   unfolding printed clauses_text
-  prints_written k v c e W =
-      let zero : eqb (refusal input) 0 ≡ true = eq-eqb (refusal input) 0 (sym asked_is ∙ passed (sheet_of input) (sequence_of input) old new r E k v c e) in
-      let l = text_fits (sheet_of input) (sequence_of input) old new r E k v c e size in
-      prints_text input (header_text v c ++ words_text (take (k - 0) new)) before after next W (omega arith)
-      (whole_text_lem (sheet_of input) (sequence_of input) old new r E k v c e size ∙ sym (rw zero refl))
+  prints_written n e W =
+      let zero : eqb (refusal input) 0 ≡ true = eq-eqb (refusal input) 0 (sym asked_is ∙ passed (sheet_of input) (sequence_of input) old new r E n e) in
+      let l = text_fits (sheet_of input) (sequence_of input) old new r E n e size in
+      prints_text input (header_text n.variables n.clauses ++ words_text (take (n.words - 0) new)) before after next W (omega arith)
+      (whole_text_lem (sheet_of input) (sequence_of input) old new r E n e size ∙ sym (rw zero refl))
 
 -- The same where the input stands in the first n bytes of the buffer that the text is written to.
-module _ (buffer : List ℕ) (n : ℕ) (old new : List ℤ) (r : ClausesAnswer)
+module _ (buffer : List ℕ) (n : ℕ) (old new : List ℤ) (r : Result ClauseNumbers Refusal)
     (E : Promised office (call.clauses (sheet_of (take (n - 0) buffer)) (sequence_of (take (n - 0) buffer)) old) (from_clauses r) (integers new))
     (size : length old ≡ 16384) (after : List ℕ) (next : ℕ) (room : 98352 ≤ length buffer) where
   prints_front : Prints (take (n - 0) buffer) after next → Prints (take n buffer) after next
   prints_front h = subst (λ k. Prints (take k buffer) after next) (sub-zero n) h
 
-  pub answer_refused : (k : ℕ) → r ≡ clauses.Refused k → Fits w32 k → Wrote buffer 0 (refused_text k) after next → Prints (take n buffer) after next
-  answer_refused k e f W = prints_front (prints_refused (take (n - 0) buffer) old new r E size buffer after next room k e f W)
+  pub answer_refused : (x : Refusal) → r ≡ Err x → (k : ℕ) → k ≡ number x → Wrote buffer 0 (refused_text k) after next → Prints (take n buffer) after next
+  answer_refused x e k is W = prints_front (prints_refused (take (n - 0) buffer) old new r E size buffer after next room x e k is W)
 
-  pub answer_written : (k v c : ℕ) → r ≡ clauses.Written k v c → Wrote buffer 0 (header_text v c ++ words_text (take (k - 0) new)) after next
+  pub answer_written : (numbers : ClauseNumbers) → r ≡ Ok numbers
+      → Wrote buffer 0 (header_text numbers.variables numbers.clauses ++ words_text (take (numbers.words - 0) new)) after next
       → Prints (take n buffer) after next
-  answer_written k v c e W = prints_front (prints_written (take (n - 0) buffer) old new r E size buffer after next room k v c e W)
+  answer_written numbers e W = prints_front (prints_written (take (n - 0) buffer) old new r E size buffer after next room numbers e W)

@@ -11,18 +11,20 @@ ghost use Rattle.clauses.specs.Printed.{Prints};
 
 use dimacs::{put_dimacs, sheet_end};
 use input::read_full;
-use operations::ClausesAnswer;
+use office::service;
+use operations::ClauseNumbers;
+use refusals::Refusal;
 use std::io;
 use std::io::{Read, Write};
 use text::put_refused;
 
 // Writes the clauses of the input's sheet and sequence.
-fn write_clauses(input: &[u8], words: &mut [i32]) -> ClausesAnswer
+fn write_clauses(input: &[u8], words: &mut [i32]) -> Result<ClauseNumbers, Refusal>
     ensures { Promised office (call.clauses (sheet_of input.now) (sequence_of input.now) words.old) (from_clauses result)
         (integers words.new) }
 {
     let e = sheet_end(input);
-    office::clauses(&input[0..e], &input[e..], words)
+    service().clauses(&input[0..e], &input[e..], words)
 }
 
 // The input stands in the first n bytes of the buffer; the text for it takes their place. Answers how long the text is.
@@ -32,12 +34,12 @@ fn answer(buffer: &mut [u8], n: usize) -> usize
     ensures { Prints (take n buffer.old) buffer.new result }
 {
     let mut words = [0i32; 16384];
-    let answer = write_clauses(&buffer[0..n], &mut words);
-    match answer {
-        ClausesAnswer::Refused(refusal) => put_refused(buffer, refusal as usize),
-        ClausesAnswer::Written(k, variables, clauses) => {
-            put_dimacs(buffer, &words[0..k], variables, clauses)
+    match write_clauses(&buffer[0..n], &mut words) {
+        Ok(numbers) => {
+            let k = numbers.words;
+            put_dimacs(buffer, &words[0..k], numbers.variables, numbers.clauses)
         }
+        Err(refusal) => put_refused(buffer, u32::from(refusal) as usize),
     }
 }
 

@@ -8,8 +8,10 @@ ghost use Rattle.operations.specs.Requirements.{Supported, TableFor};
 
 use clause_output::put_clauses;
 use clause_sizes::numbers_of;
-use operations::ClausesAnswer;
+use copies::Unfolding;
+use operations::ClauseNumbers;
 use program_check::check_program;
+use refusals::Refusal;
 use sheet::Limits;
 
 // Writing clauses.
@@ -19,14 +21,14 @@ pub fn clauses(
     q: &[u8],
     out: &mut [i32],
     table: &mut [u64],
-) -> ClausesAnswer
+) -> Result<ClauseNumbers, Refusal>
     requires { Supported limits × TableFor limits table.old }
     ensures { Promised limits (call.clauses s.now q.now out.old) (from_clauses result) (integers out.new) }
 {
     let mut records = [0u64; 384];
     let mut program = [0u32; 192];
     let mut components = [0u64; 64];
-    let a = check_program(
+    let size = check_program(
         limits,
         s,
         q,
@@ -34,16 +36,22 @@ pub fn clauses(
         &mut program,
         &mut components,
         table,
-    );
-    let refusal = a.refusal;
-    if refusal != 0 {
-        return ClausesAnswer::Refused(refusal);
-    }
-    let size = a.size;
-    let numbers = numbers_of(size, &records, &program, q, &components);
+    )?;
+    let u = Unfolding {
+        size,
+        records: &records,
+        program: &program,
+        q,
+        components: &components,
+    };
+    let numbers = numbers_of(&u);
     if out.len() < numbers.words {
-        return ClausesAnswer::Refused(10);
+        return Err(Refusal::Room);
     }
-    let length = put_clauses(out, size, &records, &program, q, &components);
-    ClausesAnswer::Written(length, numbers.variables, numbers.clauses)
+    let words = put_clauses(out, &u);
+    Ok(ClauseNumbers {
+        words,
+        variables: numbers.variables,
+        clauses: numbers.clauses,
+    })
 }

@@ -14,13 +14,8 @@ pub fn put_names(out: &mut [u8], at: usize, names: &[u8; 64], n: usize) -> usize
     requires { (n ≤ 64) × (at + length (name_bytes names.now n) ≤ length out.old) }
     ensures { Wrote out.old at (name_bytes names.now n) out.new result }
 {
-    let mut next = at;
-    let mut a = 0;
-    while a < n {
-        next = put(out, next, names[a]);
-        a += 1;
-    }
-    next
+    out[at..at + n].copy_from_slice(&names[..n]);
+    at + n
 }
 
 // The atoms of a set, rising.
@@ -32,7 +27,7 @@ fn put_set(out: &mut [u8], at: usize, x: u64) -> usize
     let mut left = x;
     while 0 < left {
         let a = lowest(left);
-        next = put(out, next, (a % 256) as u8);
+        next = put(out, next, a as u8);
         left = rest(left);
     }
     next
@@ -44,10 +39,8 @@ fn put_block(out: &mut [u8], at: usize, x: u64) -> usize
     ensures { Wrote out.old at (block_of x) out.new result }
 {
     let mut next = at;
-    let mut left = size(x);
-    while 0 < left {
+    for _ in 0..size(x) {
         next = put_set(out, next, x);
-        left -= 1;
     }
     next
 }
@@ -58,10 +51,8 @@ pub fn put_blocks(out: &mut [u8], at: usize, sets: &[u64; 64], n: usize) -> usiz
     ensures { Wrote out.old at (blocks_of sets.now n) out.new result }
 {
     let mut next = at;
-    let mut c = 0;
-    while c < n {
-        next = put_block(out, next, sets[c]);
-        c += 1;
+    for &x in &sets[..n] {
+        next = put_block(out, next, x);
     }
     next
 }
@@ -80,10 +71,8 @@ pub fn blocks_length(sets: &[u64; 64], n: usize) -> usize
     ensures { result ≡ length (blocks_of sets.now n) }
 {
     let mut t = 0;
-    let mut c = 0;
-    while c < n {
-        t += block_length(sets[c]);
-        c += 1;
+    for &x in &sets[..n] {
+        t += block_length(x);
     }
     t
 }

@@ -2,14 +2,15 @@
 use mathlib.Core.Bool.{Bool, true, false, ◌&&◌, ◌||◌, cond, and-true, and-false, and_assoc}
 use mathlib.Core.List.{List, [], ◌∷◌}
 use mathlib.Core.Path.{◌≡◌, refl, sym, ◌∙◌, ap}
-use Prim.Native.Nat.{ℕ, ◌+◌, ◌-◌, ◌*◌, ◌^◌, ◌%◌, ◌≤◌, ◌<◌}
-use native.Mathlib.Nat.{sub-zero, mod-eq_of_lt}
+use Prim.Native.Nat.{ℕ, ◌+◌, ◌-◌, ◌*◌, ◌^◌, ◌≤◌, ◌<◌, max}
+use native.Mathlib.Nat.{sub-zero}
 use native.Mathlib.Omega.{arith}
 use borrow.Author.Tests.{eqb-true, eqb-false, eq-eqb, ne_eqb, lt-ltb, le-ltb, ltb-true, ltb-false, leb-true, le-leb}
 use lib.Bits.{bit_and}
 use lib.Dec.{eqb, ltb, leb}
-use lib.ListN.{length, get_or, set, length-set, replicate, length-replicate, get_or-replicate}
+use lib.ListN.{length, get_or, set, take, length-set, replicate, length-replicate, get_or-replicate}
 use lib.Seq.{get_or-set_same, get_or-set_other}
+use Rattle.std.proofs.lemmas.List.{get_or-take}
 use Rattle.lists.specs.Lists.{all, filter, range}
 use Rattle.lists.proofs.Bools.{by_bool, bool_ext, true_false, and_intro, and_left, and_right}
 use Rattle.lists.proofs.Members.{filter_cong, filter_none, filter_out, filter_range, range_left, range_over, range_out}
@@ -18,7 +19,7 @@ use Rattle.bits.specs.inner.Sets.{has, With, Size}
 use Rattle.bits.specs.inner.Visited.{listed, Lowest, Rest}
 use Rattle.bits.proofs.Digits.{zero_has}
 use Rattle.bits.proofs.Visiting.{listed_lowest, listed_none, has_some, rest_is}
-use Rattle.components.specs.inner.Reachability.{both_ways, NameOf, NamedBy, NamesLow, SetsOf, named, names_fit, Larger, Largest}
+use Rattle.components.specs.inner.Reachability.{both_ways, NameOf, NamedBy, NamesLow, SetsOf, named, names_fit, Largest}
 
 -- The first number that passes both tests, by the list of those that pass the one.
 first_filter : (p q : ℕ → Bool) (d : ℕ) (l : List ℕ) → first (λ b. p b && q b) d l ≡ first q d (filter p l)
@@ -85,14 +86,13 @@ module _ (n : ℕ) (rows : List ℕ) where
   pub naming_start : (names : List ℕ) → length names ≡ 64 → Naming n rows 0 names
   naming_start names l = record { long = l; done = λ i l. absurd (omega arith) }
 
-  pub naming_turn : (a r : ℕ) (names : List ℕ) → Naming n rows a names → a < 64 → NameOf rows a r → Naming n rows (a + 1) (set names a (r % 256))
+  pub naming_turn : (a r : ℕ) (names : List ℕ) → Naming n rows a names → a < 64 → NameOf rows a r → Naming n rows (a + 1) (set names a r)
   naming_turn a r names K l S =
       record {
-        long = length-set names a (r % 256) ∙ K.long;
+        long = length-set names a r ∙ K.long;
         done = λ i h. by_bool (eqb i a)
-            (λ q. let w = K.long in let k = S.low in
-            rw (eqb-true i a q, get_or-set_same names a (r % 256) 0 (omega arith), let m : r % 256 ≡ r = mod-eq_of_lt (omega arith) in m) S)
-            (λ q. let ne = eqb-false i a q in rw (get_or-set_other names a i (r % 256) 0 ne) (K.done i (omega arith)));
+            (λ q. let w = K.long in rw (eqb-true i a q, get_or-set_same names a r 0 (omega arith)) S)
+            (λ q. let ne = eqb-false i a q in rw (get_or-set_other names a i r 0 ne) (K.done i (omega arith)));
       }
 
   pub naming_end : (a : ℕ) (names : List ℕ) → Naming n rows a names → n ≤ a → NamedBy n rows names
@@ -159,34 +159,28 @@ pub record Growing (n : ℕ) (sets : List ℕ) (r c : ℕ) : Type 0 where
   pub same : (names : List ℕ) → SetsOf names n sets → (most : ℕ)
       → (leb r most && all (λ i. leb (length (named names i n)) most) (range c (n - c))) ≡ names_fit most names n
 
-pub larger_second : (a b : ℕ) → a < b → Larger a b b
-larger_second a b l = record {
-  is = λ most. bool_ext
-      (λ t. let h = leb-true b most t in and_intro (le-leb a most (omega arith)) t)
-      (λ t. and_right (leb a most) (leb b most) t);
-}
-
-pub larger_first : (a b : ℕ) → b ≤ a → Larger a b a
-larger_first a b l = record {
-  is = λ most. bool_ext
-      (λ t. let h = leb-true a most t in and_intro t (le-leb b most (omega arith)))
-      (λ t. and_left (leb a most) (leb b most) t);
-}
+-- What the larger of two numbers is not above, neither is.
+leb_max : (a b most : ℕ) → leb (max a b) most ≡ (leb a most && leb b most)
+leb_max a b most =
+    bool_ext
+    (λ t. let h = leb-true (max a b) most t in and_intro (le-leb a most (omega arith)) (le-leb b most (omega arith)))
+    (λ t. let h = leb-true a most (and_left (leb a most) (leb b most) t) in let k = leb-true b most (and_right (leb a most) (leb b most) t) in
+    le-leb (max a b) most (omega arith))
 
 module _ (n : ℕ) (sets : List ℕ) where
   pub growing_start : Growing n sets 0 0
   unfolding names_fit
   growing_start = record { same = λ names S most. rw (le-leb 0 most (omega arith)) (ap (λ k. all (λ i. leb (length (named names i n)) most) (range 0 k)) (sub-zero n)) }
 
-  pub growing_turn : (r c x y : ℕ) → Growing n sets r c → c < n → n ≤ 64 → Size (get_or sets c 0) x → Larger r x y → Growing n sets y (c + 1)
+  pub growing_turn : (r c x : ℕ) → Growing n sets r c → c < n → n ≤ 64 → Size (get_or (take n sets) c 0) x → Growing n sets (max r x) (c + 1)
   unfolding all listed
-  growing_turn r c x y G l low Z M =
+  growing_turn r c x G l low Z =
       record {
         same = λ names S most.
             let rest = all (λ i. leb (length (named names i n)) most) (range (c + 1) (n - (c + 1))) in
-            ap (λ b. b && rest) (M.is most)
+            ap (λ b. b && rest) (leb_max r x most)
             ∙ (and_assoc (leb r most) (leb x most) rest
-            ∙ (ap (λ k. leb r most && (leb k most && rest)) (Z.is ∙ ap length (sets_named names n sets S low c (omega arith)))
+            ∙ (ap (λ k. leb r most && (leb k most && rest)) (Z.is ∙ ap (λ x. length (listed x)) (get_or-take n sets c 0 l) ∙ ap length (sets_named names n sets S low c (omega arith)))
             ∙ (sym (ap (λ k. leb r most && all (λ i. leb (length (named names i n)) most) k) (range_left c n l)) ∙ G.same names S most)));
       }
 

@@ -3,9 +3,9 @@
 
 ghost use Rattle.std.specs.Prelude.{◌≡◌, ◌≤◌, ◌<◌, length, replicate};
 ghost use Rattle.components.specs.inner.Reachability.{RowThrough, ClosedBy, ClosedTable};
-ghost use Rattle.components.specs.inner.Reachability.{NameOf, NamedBy, NamesLow, SetsOf, Larger, Largest, GraphOf};
+ghost use Rattle.components.specs.inner.Reachability.{NameOf, NamedBy, NamesLow, SetsOf, Largest, GraphOf};
 
-use bits::{has, lowest, rest, size, wide, with};
+use bits::{has, lowest, rest, size, with};
 
 // One row of a round for k, whose own row is given.
 fn row_through(x: u64, k: usize, row: u64) -> u64
@@ -24,10 +24,8 @@ fn close_by(rows: &mut [u64; 64], k: usize, n: usize)
     ensures { ClosedBy k n rows.old rows.new }
 {
     let row = rows[k];
-    let mut a = 0;
-    while a < n {
-        rows[a] = row_through(rows[a], k, row);
-        a += 1;
+    for x in &mut rows[..n] {
+        *x = row_through(*x, k, row);
     }
 }
 
@@ -36,10 +34,8 @@ fn close(rows: &mut [u64; 64], n: usize)
     requires { (length rows.old ≡ 64) × (n ≤ 64) }
     ensures { ClosedTable n rows.old rows.new }
 {
-    let mut k = 0;
-    while k < n {
+    for k in 0..n {
         close_by(rows, k, n);
-        k += 1;
     }
 }
 
@@ -67,10 +63,8 @@ fn store_names(names: &mut [u8; 64], rows: &[u64; 64], n: usize)
     requires { (length names.old ≡ 64) × (n ≤ 64) }
     ensures { NamedBy n rows.now names.new }
 {
-    let mut a = 0;
-    while a < n {
-        names[a] = (name_of(rows, a) % 256) as u8;
-        a += 1;
+    for a in 0..n {
+        names[a] = name_of(rows, a) as u8;
     }
 }
 
@@ -79,22 +73,10 @@ fn store_sets(sets: &mut [u64; 64], names: &[u8; 64], n: usize)
     requires { (sets.old ≡ replicate 64 0) × (n ≤ 64) × NamesLow n names.now }
     ensures { SetsOf names.now n sets.new }
 {
-    let mut a = 0;
-    while a < n {
-        let c = wide(names[a]);
+    for a in 0..n {
+        let c = usize::from(names[a]);
         sets[c] = with(sets[c], a);
-        a += 1;
     }
-}
-
-// The larger of two numbers.
-fn larger(a: usize, b: usize) -> usize
-    ensures { Larger a b result }
-{
-    if a < b {
-        return b;
-    }
-    a
 }
 
 // How many atoms the largest of the first n sets has.
@@ -103,24 +85,16 @@ pub fn largest(sets: &[u64; 64], n: usize) -> usize
     ensures { Largest n sets.now result }
 {
     let mut most = 0;
-    let mut c = 0;
-    while c < n {
-        most = larger(most, size(sets[c]) as usize);
-        c += 1;
+    for &x in &sets[..n] {
+        most = usize::max(most, size(x) as usize);
     }
     most
 }
 
 // Copies rows, as many as there is room for.
 fn copy_rows(rows: &[u64; 64], out: &mut [u64]) {
-    let mut a = 0;
-    while a < 64 {
-        if out.len() <= a {
-            return;
-        }
-        out[a] = rows[a];
-        a += 1;
-    }
+    let k = out.len().min(64);
+    out[..k].copy_from_slice(&rows[..k]);
 }
 
 // The components of a program of n atoms, by its edges: each atom's component's name, and the set of each name. The atoms that lead to each

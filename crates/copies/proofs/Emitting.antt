@@ -3,18 +3,18 @@ use mathlib.Core.List.{List, [], ◌∷◌}
 use mathlib.Core.Path.{◌≡◌, ◌∙◌, ap, subst}
 use Prim.Native.Nat.{ℕ, ◌+◌, ◌≤◌, ◌<◌}
 use native.Mathlib.Omega.{arith}
-use lib.ListN.{length, length-map, get_or, replicate, length-replicate}
-use Rattle.lists.specs.Lists.{range}
-use Rattle.lists.proofs.Nodup.{length_range}
+use lib.ListN.{length, get_or, take, replicate, length-replicate}
+use lib.Seq.{length-take-le}
 use Rattle.unfolding.specs.Unfolded.{Copy, last}
 use Rattle.program.specs.inner.Held.{ProgramTable}
 use Rattle.copies.specs.inner.Tables.{Values}
-use Rattle.copies.specs.inner.Bodies.{entry_body, bodies_by}
+use Rattle.copies.specs.inner.Bodies.{bodies_by}
 use Rattle.copies.specs.inner.Made.{EntryAt, Made}
 use Rattle.copies.specs.inner.Kept.{CopyMade}
 use Rattle.copies.specs.inner.Ready.{Ready, unfolded_in}
 use Rattle.copies.specs.declared.EntryCopy.{EntryCopy}
 use Rattle.copies.specs.declared.CopyStep.{CopyStep}
+use Rattle.copies.proofs.Keeping.{bodies_number}
 use Rattle.copies.proofs.Going.{copy_of, CopiesLeft, copies_start, copies_here, copies_turn, copies_end, entry_at, Tracks, tracks_start, tracks_turn, copy_is, var_small, vars_small}
 
 -- The tables follow the copies made so far, and what holds of the copies that are left.
@@ -40,9 +40,6 @@ module _ (t : ProgramTable) (components q : List ℕ) (R : Ready t components q)
       }
 
   module _ (i keeping : ℕ) (before latest : List ℕ) (highest : ℕ) (Rest : List Copy → Type 0) (E : Emitting t q i keeping before latest highest Rest) where
-    pub emitting_latest : length latest ≡ 64
-    emitting_latest = E.left.rest.tracks.long
-
     pub emitting_end : length q ≤ i → Rest []
     emitting_end l = (copies_end t q i keeping (Tracked t.atoms latest highest Rest) E.left l).rest
 
@@ -58,12 +55,18 @@ module _ (t : ProgramTable) (components q : List ℕ) (R : Ready t components q)
         emitting_var = var_small t components q R i E.left.extra E.left.past E.left.few within latest highest E.left.rest.tracks c M
 
         module _ (lasts list after vars : List ℕ) (s : CopyStep)
-            (N : CopyMade t.records t.entries components latest lasts (record { entry = c; k = t.rules; keeping = keeping }) list after vars s) (F : Values last lasts) where
+            (N : CopyMade t components latest lasts c keeping list after vars s) (F : Values last lasts) where
+          abbrev ls : List ℕ
+          ls = take s.kept list
+
           abbrev copy : Copy
-          copy = record { atom = c.atom; var = c.var; kept = bodies_by t.records t.entries vars list s.kept }
+          copy = record { atom = c.atom; var = c.var; kept = bodies_by t.records t.entries vars ls }
 
           same : copy_of t q i E.left.extra E.left.past ≡ copy
           same = copy_is t components q R i E.left.extra E.left.past E.left.few within latest highest E.left.rest.tracks c M keeping E.left.marks list s N.selected lasts vars F N.overlaid
+
+          pub emitting_number : length (take s.kept list) ≡ s.kept
+          emitting_number = length-take-le s.kept list (let l = N.selected.kept.long in let f = N.selected.kept.few in omega arith)
 
           pub emitting_vars : (b : ℕ) → b < 64 → get_or vars b 0 < 1024
           emitting_vars = vars_small t components q R i E.left.extra E.left.past E.left.few within latest highest E.left.rest.tracks c M keeping E.left.marks list s N.selected lasts vars F N.overlaid
@@ -76,10 +79,7 @@ module _ (t : ProgramTable) (components q : List ℕ) (R : Ready t components q)
               some cs h = record { copies = cs; holds = subst (λ d. Rest (d ∷ cs)) same h }
 
           number : length (copy_of t q i E.left.extra E.left.past).kept ≡ s.kept
-          unfolding bodies_by
-          number =
-              ap (λ (d : Copy). length d.kept) same
-              ∙ (length-map (range 0 s.kept) (λ j. entry_body t.records t.entries vars (get_or list j 0)) ∙ length_range 0 s.kept)
+          number = ap (λ (d : Copy). length d.kept) same ∙ (bodies_number t.records t.entries vars ls ∙ emitting_number)
 
           -- One copy more.
           pub emitting_turn : (Rest' : List Copy → Type 0) → ((cs : List Copy) → Rest (copy ∷ cs) → Rest' cs)

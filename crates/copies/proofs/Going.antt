@@ -7,7 +7,7 @@ use native.Mathlib.Numerals.{add-one}
 use native.Mathlib.Omega.{arith}
 use borrow.Author.Tests.{eqb-true, eqb-false, eq-eqb, ne_eqb}
 use lib.Dec.{eqb}
-use lib.ListN.{length, get_or, drop, drop_of_length-le, set, length-set, replicate, length-replicate, get_or-replicate}
+use lib.ListN.{length, get_or, take, drop, drop_of_length-le, set, length-set, replicate, length-replicate, get_or-replicate}
 use lib.Seq.{drop-cons}
 use Rattle.lists.proofs.Members.{below_more}
 use Rattle.lists.specs.Lists.{below}
@@ -170,7 +170,7 @@ module _ (t : ProgramTable) (components q : List ℕ) (R : Ready t components q)
 
   -- The rules of the copy, over the variables that stand in them.
   module _ (keeping : ℕ) (marks : (b : ℕ) → has keeping b ≡ latest_keeps past b) (list : List ℕ) (s : CopyStep)
-      (S : Selected t.records t.entries components (record { rules = t.rules; atom = c.atom; keeping = keeping }) list s)
+      (S : Selected t components c.atom keeping list s)
       (lasts vars : List ℕ) (F : Values last lasts) (O : Overlaid s.component table lasts vars) where
     set_is : s.component ≡ get_or components (get_or q i 0) 0
     set_is = S.component ∙ ap (λ a. get_or components a 0) M.atom
@@ -183,10 +183,10 @@ module _ (t : ProgramTable) (components q : List ℕ) (R : Ready t components q)
         ∙ (ap (λ (x : Bool). cond x (get_or table b 0) (get_or lasts b 0)) (ap (λ x. has x b) set_is ∙ R.grouped.members (get_or q i 0) b a_low l)
         ∙ ap₂ (λ x y. cond (same_component (program_in t) (get_or q i 0) b) x y) (T.is b (omega arith)) (F.is b (omega arith)))
 
-    pub copy_is : copy_of t q i e past ≡ record { atom = c.atom; var = c.var; kept = bodies_by t.records t.entries vars list s.kept }
+    pub copy_is : copy_of t q i e past ≡ record { atom = c.atom; var = c.var; kept = bodies_by t.records t.entries vars (take s.kept list) }
     copy_is =
-        let at_atom = subst (λ x. Kept t.records t.entries t.rules x (get_or components (get_or q i 0) 0) keeping list s.kept) M.atom
-        (subst (λ x. Kept t.records t.entries t.rules c.atom x keeping list s.kept) set_is S.kept) in
+        let at_atom = subst (λ x. Kept t x (get_or components (get_or q i 0) 0) keeping list s.kept) M.atom
+        (subst (λ x. Kept t c.atom x keeping list s.kept) set_is S.kept) in
         let bodies = kept_bodies_lem t components q R past keeping marks (get_or q i 0) a_low list s.kept at_atom vars stands in
         rw (M.atom, var_is, bodies) refl
 

@@ -6,12 +6,13 @@ use Prim.Native.Nat.{ℕ, zero, suc, ◌+◌, ◌-◌, ◌^◌, ◌≤◌, ◌<�
 use native.Mathlib.Omega.{arith}
 use borrow.Author.Tests.{eq-eqb, ne_eqb, eqb-false}
 use lib.Dec.{eqb, ltb}
-use lib.ListN.{length, length-map, get_or, set, length-set}
+use lib.ListN.{length, length-map, get_or, set, length-set, take}
+use lib.Seq.{get_or-take, length-take-le}
+use Rattle.std.proofs.lemmas.List.{take_more_set}
+use mir.Val.{bool_byte}
 use Rattle.lists.specs.Lists.{all, filter, range}
 use Rattle.lists.proofs.Bools.{by_bool, bool_ext, true_false}
 use Rattle.lists.proofs.Members.{all_at, all_intro, member_in, member_out, range_left, range_over}
-use Rattle.lists.proofs.Nodup.{length_range}
-use Rattle.lists.proofs.Tables.{table_same, table_more}
 use Rattle.asp.specs.Program.{Body}
 use Rattle.bits.specs.inner.Sets.{has, WithIf, Without, Size, Both, Subset}
 use Rattle.bits.specs.inner.Visited.{listed}
@@ -19,10 +20,10 @@ use Rattle.bits.proofs.Visiting.{listed_few, listed_member}
 use Rattle.tables.specs.inner.Rows.{row_at, entry_at}
 use Rattle.tables.specs.declared.SheetRecord.{SheetRecord}
 use Rattle.tables.specs.declared.ProgramEntry.{ProgramEntry}
-use Rattle.program.specs.inner.Held.{table_rule, added_atom}
+use Rattle.program.specs.inner.Held.{table_rule, ProgramTable, added_atom}
 use Rattle.copies.specs.inner.Bodies.{entry_body, bodies_by, negative_atoms, atom_count}
 use Rattle.copies.proofs.Tables.{stored}
-use Rattle.copies.specs.inner.Kept.{keeps, Marked, kept_entries, Inside, ListedAt, firsts, Kept}
+use Rattle.copies.specs.inner.Kept.{keeps, Marked, kept_entries, Kept}
 
 -- Whether the rule at an entry is kept.
 module _ (t p : List ℕ) (i a component keeping : ℕ) (e : ProgramEntry) (E : e ≡ entry_at p i) (h : ℕ) (H : h ≡ e.head) where
@@ -68,25 +69,22 @@ added_few zero = omega arith
 added_few (suc a) = omega arith
 
 -- How many negative atoms a body has.
-module _ (neg added n : ℕ) (N : Size neg n) where
-  pub negative_fits : n + 1 < 4294967296
-  unfolding listed
-  negative_fits = let e = N.is in let f = listed_few neg in omega arith
-
-  pub negative_none : added ≡ 0 → n ≡ negative_atoms neg added
-  unfolding negative_atoms listed added_atom
-  negative_none z = rw z (let e = N.is in omega arith)
-
-  pub negative_added : (added ≡ 0 → ⊥) → n + 1 ≡ negative_atoms neg added
-  unfolding negative_atoms listed added_atom
-  negative_added ne = more added ne
+module _ (neg added n more : ℕ) (N : Size neg n) (M : more ≡ bool_byte (not (eqb added 0))) where
+  added_number : more ≡ length (added_atom added)
+  unfolding added_atom
+  added_number = M ∙ one added
     where
-      more : (a : ℕ) → (a ≡ 0 → ⊥) → n + 1 ≡ length (listed neg) + length (added_atom a)
-      more zero z = absurd (z refl)
-      more (suc a) z = let e = N.is in omega arith
+      one : (a : ℕ) → bool_byte (not (eqb a 0)) ≡ length (added_atom a)
+      one zero = refl
+      one (suc a) = rw (ne_eqb (suc a) 0 (λ z. omega arith)) refl
 
-pub add_yes : (b : Bool) (x k : ℕ) → b ≡ true → x + k ≡ cond b (x + k) x
-add_yes b x k t = sym (rw t refl)
+  pub negative_fits : n + more < 4294967296
+  unfolding listed
+  negative_fits = let e = N.is in let f = listed_few neg in let a = added_number in let l = added_few added in omega arith
+
+  pub negative_number : n + more ≡ negative_atoms neg added
+  unfolding negative_atoms listed
+  negative_number = let e = N.is in let a = added_number in omega arith
 
 -- How many atoms bodies have.
 pub atoms_append : (xs ys : List Body) → atom_count (xs ++ ys) ≡ atom_count xs + atom_count ys
@@ -95,37 +93,37 @@ atoms_append [] ys = omega arith
 atoms_append (b ∷ xs) ys = let e = atoms_append xs ys in omega arith
 
 -- The loop over the rules: of the first j these are kept.
-pub record Keeping (t p : List ℕ) (rules a component keeping j : ℕ) (entries : List ℕ) (kept : ℕ) : Type 0 where
+pub record Keeping (t : ProgramTable) (a component keeping j : ℕ) (entries : List ℕ) (kept : ℕ) : Type 0 where
   pub long : length entries ≡ 192
   pub few : kept ≤ j
-  pub within : j ≤ rules
+  pub within : j ≤ t.rules
   pub low : (i : ℕ) → i < kept → get_or entries i 0 < 192
-  pub rest : firsts entries kept ++ filter (λ i. keeps a component keeping (table_rule t p i)) (range j (rules - j)) ≡ kept_entries t p rules a component keeping
+  pub rest : take kept entries ++ filter (λ i. keeps a component keeping (table_rule t.records t.entries i)) (range j (t.rules - j)) ≡ kept_entries t a component keeping
 
-module _ (t p : List ℕ) (rules a component keeping : ℕ) where
+module _ (t : ProgramTable) (a component keeping : ℕ) where
   abbrev keep : ℕ → Bool
-  keep i = keeps a component keeping (table_rule t p i)
+  keep i = keeps a component keeping (table_rule t.records t.entries i)
 
   abbrev left : ℕ → List ℕ
-  left j = filter keep (range j (rules - j))
+  left j = filter keep (range j (t.rules - j))
 
-  left_all : left 0 ≡ kept_entries t p rules a component keeping
+  left_all : left 0 ≡ kept_entries t a component keeping
   unfolding kept_entries
-  left_all = ap (λ k. filter keep (range 0 k)) (let e : rules - 0 ≡ rules = omega arith in e)
+  left_all = ap (λ k. filter keep (range 0 k)) (let e : t.rules - 0 ≡ t.rules = omega arith in e)
 
-  left_yes : (j : ℕ) → j < rules → keep j ≡ true → left j ≡ j ∷ left (j + 1)
+  left_yes : (j : ℕ) → j < t.rules → keep j ≡ true → left j ≡ j ∷ left (j + 1)
   unfolding filter
-  left_yes j lt t = ap (filter keep) (range_left j rules lt) ∙ rw t refl
+  left_yes j lt y = ap (filter keep) (range_left j t.rules lt) ∙ rw y refl
 
-  left_no : (j : ℕ) → j < rules → keep j ≡ false → left j ≡ left (j + 1)
+  left_no : (j : ℕ) → j < t.rules → keep j ≡ false → left j ≡ left (j + 1)
   unfolding filter
-  left_no j lt f = ap (filter keep) (range_left j rules lt) ∙ rw f refl
+  left_no j lt f = ap (filter keep) (range_left j t.rules lt) ∙ rw f refl
 
-  left_none : (j : ℕ) → rules ≤ j → left j ≡ []
+  left_none : (j : ℕ) → t.rules ≤ j → left j ≡ []
   unfolding filter
-  left_none j l = ap (filter keep) (range_over j rules l)
+  left_none j l = ap (filter keep) (range_over j t.rules l)
 
-  pub keeping_start : (entries : List ℕ) → length entries ≡ 192 → Keeping t p rules a component keeping 0 entries 0
+  pub keeping_start : (entries : List ℕ) → length entries ≡ 192 → Keeping t a component keeping 0 entries 0
   unfolding range
   keeping_start entries l =
       record {
@@ -136,52 +134,56 @@ module _ (t p : List ℕ) (rules a component keeping : ℕ) where
         rest = left_all;
       }
 
-  module _ (j : ℕ) (entries : List ℕ) (kept : ℕ) (K : Keeping t p rules a component keeping j entries kept) where
-    module _ (lt : j < rules) (most : rules ≤ 192) where
+  module _ (j : ℕ) (entries : List ℕ) (kept : ℕ) (K : Keeping t a component keeping j entries kept) where
+    module _ (lt : j < t.rules) (m : t.rules ≤ 192) where
       index : kept < length entries
       index = let f = K.few in let l = K.long in omega arith
 
-      abbrev Next : ℕ → Type 0
-      Next = Keeping t p rules a component keeping (j + 1) (set entries kept j)
+      small : j < 192
+      small = omega arith
 
       low_more : (i : ℕ) → i < kept + 1 → get_or (set entries kept j) i 0 < 192
-      low_more i h = subst (λ x. x < 192) (sym (stored entries kept j i index)) (by_bool (eqb i kept) (λ t. rw t (omega arith)) (λ f. rw f (let ne = eqb-false i kept f in K.low i (omega arith))))
+      low_more i h = subst (λ x. x < 192) (sym (stored entries kept j i index)) (by_bool (eqb i kept) (λ y. rw y small) (λ f. rw f (let ne = eqb-false i kept f in K.low i (omega arith))))
 
-      yes : keep j ≡ true → Next (kept + 1)
-      yes t =
+      pub keeping_yes : (b : Bool) → b ≡ keeps a component keeping (table_rule t.records t.entries j) → b ≡ true → Keeping t a component keeping (j + 1) (set entries kept j) (kept + 1)
+      keeping_yes b e y =
           record {
             long = length-set entries kept j ∙ K.long;
             few = let f = K.few in omega arith;
             within = omega arith;
             low = low_more;
-            rest = ap (λ es. es ++ left (j + 1)) (table_more (λ i. i) entries kept j index)
-                ∙ (append_assoc (firsts entries kept) (j ∷ []) (left (j + 1)) ∙ (ap (λ es. firsts entries kept ++ es) (sym (left_yes j lt t)) ∙ K.rest));
+            rest = ap (λ es. es ++ left (j + 1)) (take_more_set entries kept j index)
+                ∙ (append_assoc (take kept entries) (j ∷ []) (left (j + 1)) ∙ (ap (λ es. take kept entries ++ es) (sym (left_yes j lt (sym e ∙ y))) ∙ K.rest));
           }
 
-      no : keep j ≡ false → Next kept
-      no f =
+      pub keeping_no : (b : Bool) → b ≡ keeps a component keeping (table_rule t.records t.entries j) → b ≡ false → Keeping t a component keeping (j + 1) entries kept
+      keeping_no b e f =
           record {
-            long = length-set entries kept j ∙ K.long;
+            long = K.long;
             few = let f = K.few in omega arith;
             within = omega arith;
-            low = λ i h. low_more i (omega arith);
-            rest = ap (λ es. es ++ left (j + 1)) (table_same (λ i. i) entries kept j) ∙ (ap (λ es. firsts entries kept ++ es) (sym (left_no j lt f)) ∙ K.rest);
+            low = K.low;
+            rest = ap (λ es. take kept entries ++ es) (sym (left_no j lt (sym e ∙ f))) ∙ K.rest;
           }
 
-      pub keeping_turn : (b : Bool) (kept' : ℕ) → b ≡ keeps a component keeping (table_rule t p j) → kept' ≡ cond b (kept + 1) kept → Next kept'
-      keeping_turn b kept' e f = by_bool b (λ h. rw (f, h) (yes (sym e ∙ h))) (λ h. rw (f, h) (no (sym e ∙ h)))
-
-    pub keeping_end : rules ≤ j → rules ≤ 192 → Kept t p rules a component keeping entries kept
-    keeping_end l most =
+    pub keeping_end : t.rules ≤ j → t.rules ≤ 192 → Kept t a component keeping entries kept
+    keeping_end l m =
         record {
           long = K.long;
-          are = sym (append-nil (firsts entries kept)) ∙ (ap (λ es. firsts entries kept ++ es) (sym (left_none j l)) ∙ K.rest);
-          inside = record { few = let f = K.few in let w = K.within in omega arith; low = K.low };
+          are = sym (append-nil (take kept entries)) ∙ (ap (λ es. take kept entries ++ es) (sym (left_none j l)) ∙ K.rest);
+          few = few;
+          inside = record { few = rw size few; low = λ i h. subst (λ x. x < 192) (sym (get_or-take kept entries i 0 (shorter i h))) (K.low i (shorter i h)) };
         }
+      where
+        few : kept ≤ 192
+        few = let f = K.few in let w = K.within in omega arith
 
-pub listed_at : (entries : List ℕ) (k j r : ℕ) → Inside entries k → j < k → r ≡ get_or entries j 0 → ListedAt entries j r
-listed_at entries k j r I l e = record { is = e; low = subst (λ x. x < 192) (sym e) (I.low j l) }
+        size : length (take kept entries) ≡ kept
+        size = length-take-le kept entries (let l = K.long in let f = few in omega arith)
 
-pub bodies_number : (t p vars entries : List ℕ) (k : ℕ) → length (bodies_by t p vars entries k) ≡ k
+        shorter : (i : ℕ) → i < length (take kept entries) → i < kept
+        shorter i h = let e = size in omega arith
+
+pub bodies_number : (t p vars entries : List ℕ) → length (bodies_by t p vars entries) ≡ length entries
 unfolding bodies_by
-bodies_number t p vars entries k = length-map (range 0 k) (λ j. entry_body t p vars (get_or entries j 0)) ∙ length_range 0 k
+bodies_number t p vars entries = length-map entries (entry_body t p vars)

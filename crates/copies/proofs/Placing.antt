@@ -1,20 +1,18 @@
--- Laws of the last entries of atoms, and of the copy of an entry.
-use mathlib.Core.Bool.{true, false, not, cond}
+-- Laws of the last entries of atoms.
+use mathlib.Core.Bool.{true, not, cond}
 use mathlib.Core.List.{List, [], ◌∷◌}
 use mathlib.Core.Path.{◌≡◌, refl, sym, ◌∙◌, ap, subst}
 use Prim.Native.Nat.{ℕ, zero, suc, ◌+◌, ◌-◌, ◌≤◌, ◌<◌}
-use native.Mathlib.Numerals.{add-one}
 use native.Mathlib.Omega.{arith}
 use borrow.Author.Tests.{eqb-true, eqb-false, eq-eqb, ne_eqb}
 use lib.Dec.{eqb}
-use lib.ListN.{length, get_or, drop, length-drop, set, length-set, replicate, length-replicate}
+use lib.ListN.{length, get_or, drop, length-drop, set, length-set}
 use lib.Seq.{get_or-drop}
 use Rattle.lists.specs.Lists.{any, below, member}
 use Rattle.lists.proofs.Bools.{by_bool, bool_ext, true_false, not_intro}
 use Rattle.lists.proofs.Members.{member_out, below_at}
-use Rattle.bits.specs.inner.Sets.{ByteAt}
 use Rattle.sheet.specs.Sequence.{entries}
-use Rattle.copies.specs.inner.Made.{EntryAt, again, LastPlaces, Made}
+use Rattle.copies.specs.inner.Made.{again, LastPlaces}
 use Rattle.copies.proofs.Tables.{stored}
 
 -- A member stands at an index, and what stands at an index is a member.
@@ -50,14 +48,10 @@ pub record Placing (q : List ℕ) (j : ℕ) (places : List ℕ) : Type 0 where
   pub same : (i : ℕ) → 3 ≤ i → i < j → get_or q (get_or places (get_or q i 0) 0) 0 ≡ get_or q i 0
 
 module _ (q : List ℕ) where
-  pub placing_start : Placing q 3 (replicate 64 0)
-  placing_start =
-      record { from = omega arith; long = length-replicate {A = ℕ} 64 0; late = λ i l h. absurd (omega arith); seen = λ i l h. absurd (omega arith); same = λ i l h. absurd (omega arith) }
-
   module _ (j : ℕ) (places : List ℕ) (K : Placing q j places) where
-    module _ (a : ℕ) (A : ByteAt q j a) (low : below 64 (entries q) ≡ true) (within : j < length q) where
+    module _ (a : ℕ) (A : a ≡ get_or q j 0) (low : below 64 (entries q) ≡ true) (within : j < length q) where
       pub placing_low : a < 64
-      placing_low = let e = A.is in let l = entry_below q j 64 K.from within low in omega arith
+      placing_low = let l = entry_below q j 64 K.from within low in omega arith
 
       abbrev value : ℕ → ℕ
       value i = get_or (set places a j) (get_or q i 0) 0
@@ -66,7 +60,7 @@ module _ (q : List ℕ) where
       is i = let w = K.long in let l = placing_low in stored places a j (get_or q i 0) (omega arith)
 
       older : (i : ℕ) → i < j + 1 → (get_or q i 0 ≡ a → ⊥) → i < j
-      older i h ne = by_bool (eqb i j) (λ t. absurd (ne (ap (λ x. get_or q x 0) (eqb-true i j t) ∙ sym A.is))) (λ f. let g = eqb-false i j f in omega arith)
+      older i h ne = by_bool (eqb i j) (λ t. absurd (ne (ap (λ x. get_or q x 0) (eqb-true i j t) ∙ sym A))) (λ f. let g = eqb-false i j f in omega arith)
 
       pub placing_turn : Placing q (j + 1) (set places a j)
       placing_turn =
@@ -78,12 +72,12 @@ module _ (q : List ℕ) where
             seen = λ i l h. subst (λ x. x < j + 1) (sym (is i))
                 (by_bool (eqb (get_or q i 0) a) (λ t. rw t (omega arith)) (λ f. rw f (let s = K.seen i l (older i h (eqb-false (get_or q i 0) a f)) in omega arith)));
             same = λ i l h. subst (λ x. get_or q x 0 ≡ get_or q i 0) (sym (is i))
-                (by_bool (eqb (get_or q i 0) a) (λ t. rw t (sym A.is ∙ sym (eqb-true (get_or q i 0) a t))) (λ f. rw f (K.same i l (older i h (eqb-false (get_or q i 0) a f)))));
+                (by_bool (eqb (get_or q i 0) a) (λ t. rw t (sym A ∙ sym (eqb-true (get_or q i 0) a t))) (λ f. rw f (K.same i l (older i h (eqb-false (get_or q i 0) a f)))));
           }
 
-    pub placing_end : length q ≤ j → j ≤ length q → LastPlaces q places
+    pub placing_end : length q ≤ j → 3 ≤ length q → (3 ≤ length q → j ≤ length q) → LastPlaces q places
     unfolding again
-    placing_end l h = record { more = λ i f w. bool_ext (further i f w) (nearer i f w) }
+    placing_end l f h = record { more = λ i f w. bool_ext (further i f w) (nearer i f w) }
       where
         further : (i : ℕ) → 3 ≤ i → i < length q → not (eqb (get_or places (get_or q i 0) 0) i) ≡ true → member (get_or q i 0) (drop (i + 1) q) ≡ true
         further i f w t =
@@ -106,22 +100,3 @@ module _ (q : List ℕ) where
             let late : k ≤ get_or places (get_or q k 0) 0 = K.late k (omega arith) (omega arith) in
             let there = ap (λ x. get_or places x 0) e in
             not_intro (ne_eqb (get_or places (get_or q i 0) 0) i (λ z. omega arith))
-
--- The copy of an entry.
-module _ (q : List ℕ) (i : ℕ) (places : List ℕ) (so_far a place : ℕ) (E : EntryAt q i) (A : ByteAt q i a) where
-  pub copy_atom : a < 64
-  copy_atom = subst (λ x. x < 64) (sym A.is) E.atom
-
-  module _ (K : LastPlaces q places) (p : place ≡ get_or places a 0) where
-    test : not (eqb place i) ≡ again q i
-    test = ap (λ x. not (eqb x i)) (p ∙ ap (λ x. get_or places x 0) A.is) ∙ K.more i E.from E.within
-
-    pub made_last : place ≡ i → Made q i so_far (record { atom = a; var = a + 1; highest = so_far })
-    made_last e =
-        let none : again q i ≡ false = sym test ∙ ap not (eq-eqb place i e) in
-        record { atom = A.is; low = copy_atom; var = rw none (add-one a ∙ ap suc A.is); highest = rw none refl }
-
-    pub made_earlier : (place ≡ i → ⊥) → Made q i so_far (record { atom = a; var = so_far + 1; highest = so_far + 1 })
-    made_earlier ne =
-        let some : again q i ≡ true = sym test ∙ ap not (ne_eqb place i ne) in
-        record { atom = A.is; low = copy_atom; var = rw some (add-one so_far); highest = rw some (add-one so_far) }

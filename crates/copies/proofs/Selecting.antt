@@ -6,7 +6,7 @@ use mathlib.Core.Path.{◌≡◌, refl, sym, ◌∙◌, ap, ap₂}
 use Prim.Native.Nat.{ℕ, ◌<◌}
 use native.Mathlib.Omega.{arith}
 use lib.Dec.{eqb, ltb}
-use lib.ListN.{length, length-map, get_or}
+use lib.ListN.{length, length-map, get_or, take}
 use Rattle.lists.specs.Lists.{all, below, filter, range}
 use Rattle.lists.proofs.Bools.{by_bool, and_left, and_right}
 use Rattle.lists.proofs.Members.{all_at, all_cong, map_cong, filter_cong, filter_out, range_in, range_out, below_at}
@@ -53,7 +53,7 @@ module _ (t : ProgramTable) (components q : List ℕ) (R : Ready t components q)
 
   module _ (past : List Copy) (keeping : ℕ) (marks : (b : ℕ) → has keeping b ≡ latest_keeps past b) (a : ℕ) (within : a < t.atoms) where
     abbrev entries : List ℕ
-    entries = kept_entries t.records t.entries t.rules a (get_or components a 0) keeping
+    entries = kept_entries t a (get_or components a 0) keeping
 
     abbrev body : ℕ → Body
     body i = body_of (table_rule t.records t.entries i)
@@ -94,13 +94,13 @@ module _ (t : ProgramTable) (components q : List ℕ) (R : Ready t components q)
     pub kept_atoms : atom_count (kept_for P past a) ≡ atom_count (map body entries)
     kept_atoms = ap atom_count kept_are ∙ atoms_renamed (replaced P past a) body entries
 
-    module _ (list : List ℕ) (k : ℕ) (K : Kept t.records t.entries t.rules a (get_or components a 0) keeping list k) where
-      pub kept_bodies_lem : (vars : List ℕ) → ((b : ℕ) → b < t.atoms → get_or vars b 0 ≡ replaced P past a b) → kept_for P past a ≡ bodies_by t.records t.entries vars list k
+    module _ (list : List ℕ) (k : ℕ) (K : Kept t a (get_or components a 0) keeping list k) where
+      pub kept_bodies_lem : (vars : List ℕ) → ((b : ℕ) → b < t.atoms → get_or vars b 0 ≡ replaced P past a b) → kept_for P past a ≡ bodies_by t.records t.entries vars (take k list)
       unfolding bodies_by kept_entries entry_body body_by renamed body_of
       kept_bodies_lem vars h =
           kept_are
           ∙ (map_cong (λ i. renamed (replaced P past a) (body i)) (entry_body t.records t.entries vars) entries each
-          ∙ (ap (map (entry_body t.records t.entries vars)) (sym K.are) ∙ map-map (entry_body t.records t.entries vars) (λ j. get_or list j 0) (range 0 k)))
+          ∙ ap (map (entry_body t.records t.entries vars)) (sym K.are))
         where
           each : (i : ℕ) → Memᴰ i entries → renamed (replaced P past a) (body i) ≡ entry_body t.records t.entries vars i
           each i m =

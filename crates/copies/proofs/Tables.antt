@@ -2,11 +2,11 @@
 use mathlib.Core.Bool.{cond, and-true, and-false}
 use mathlib.Core.List.{List, map}
 use mathlib.Core.Path.{◌≡◌, refl, sym, ◌∙◌, ap}
-use Prim.Native.Nat.{ℕ, ◌+◌, ◌≤◌, ◌<◌}
+use Prim.Native.Nat.{ℕ, ◌<◌}
 use native.Mathlib.Omega.{arith}
 use borrow.Author.Tests.{eqb-true, eqb-false}
 use lib.Dec.{eqb}
-use lib.ListN.{length, get_or, set, length-set, replicate, length-replicate}
+use lib.ListN.{length, get_or, set, length-set}
 use lib.Seq.{get_or-set_same, get_or-set_other}
 use Rattle.lists.specs.Lists.{range}
 use Rattle.lists.proofs.Bools.{by_bool}
@@ -14,8 +14,7 @@ use Rattle.lists.proofs.Members.{map_cong, filter_out, range_out}
 use Rattle.unfolding.specs.Unfolded.{last}
 use Rattle.bits.specs.inner.Sets.{has}
 use Rattle.bits.specs.inner.Visited.{listed, Lowest, Rest}
-use Rattle.bits.proofs.Digits.{zero_has}
-use Rattle.copies.specs.inner.Tables.{Values, Overlaid}
+use Rattle.copies.specs.inner.Tables.{Values}
 
 -- A value after a store.
 pub stored : (l : List ℕ) (i v b : ℕ) → i < length l → get_or (set l i v) b 0 ≡ cond (eqb b i) v (get_or l b 0)
@@ -24,35 +23,12 @@ stored l i v b h =
     (λ t. rw t (ap (λ j. get_or (set l i v) j 0) (eqb-true b i t) ∙ get_or-set_same l i v 0 h))
     (λ f. rw f (get_or-set_other l i b v 0 (eqb-false b i f)))
 
--- A table whose first b values are last copies.
-pub record Filling (b : ℕ) (vars : List ℕ) : Type 0 where
-  pub long : length vars ≡ 64
-  pub done : (i : ℕ) → i < b → get_or vars i 0 ≡ last i
-
-pub filling_start : Filling 0 (replicate 64 0)
-filling_start = record { long = length-replicate {A = ℕ} 64 0; done = λ i l. absurd (omega arith) }
-
-pub filling_turn : (b : ℕ) (vars : List ℕ) → Filling b vars → b < 64 → Filling (b + 1) (set vars b (b + 1))
-unfolding last
-filling_turn b vars F l =
-    record {
-      long = length-set vars b (b + 1) ∙ F.long;
-      done = λ i h. let w = F.long in stored vars b (b + 1) i (omega arith)
-          ∙ by_bool (eqb i b) (λ t. let e = eqb-true i b t in rw t (omega arith)) (λ f. let ne = eqb-false i b f in rw f (F.done i (omega arith)));
-    }
-
-pub filling_end : (b : ℕ) (vars : List ℕ) → Filling b vars → 64 ≤ b → Values last vars
-filling_end b vars F l = record { long = F.long; is = λ i h. F.done i (omega arith) }
-
 -- The loop over a set whose values are put into a table: with those that are left, the table is the one wanted.
 pub record Overlaying (set-of : ℕ) (source old : List ℕ) (left : ℕ) (cur : List ℕ) : Type 0 where
   pub long : length cur ≡ length old
   pub is : (b : ℕ) → b < 64 → cond (has left b) (get_or source b 0) (get_or cur b 0) ≡ cond (has set-of b) (get_or source b 0) (get_or old b 0)
 
 module _ (set-of : ℕ) (source old : List ℕ) where
-  pub overlay_start : Overlaying set-of source old set-of old
-  overlay_start = record { long = refl; is = λ b l. refl }
-
   module _ (left : ℕ) (cur : List ℕ) (O : Overlaying set-of source old left cur) where
     pub overlay_turn : (a r : ℕ) → length old ≡ 64 → Lowest left a → Rest left r → Overlaying set-of source old r (set cur a (get_or source a 0))
     overlay_turn a r w L R =
@@ -64,12 +40,6 @@ module _ (set-of : ℕ) (source old : List ℕ) where
               (λ t. let e = eqb-true b a t in rw t (rw (and-false (has left b)) (ap (λ x. get_or source x 0) (sym e) ∙ (sym (rw (ap (has left) e ∙ L.is) refl) ∙ O.is b l))))
               (λ f. rw f (rw (and-true (has left b)) (O.is b l))));
         }
-
-    pub overlay_length : length cur ≡ length old
-    overlay_length = O.long
-
-    pub overlay_end : left ≤ 0 → Overlaid set-of source old cur
-    overlay_end h = record { is = λ b l. sym (rw (ap (λ x. has x b) (let e : left ≡ 0 = omega arith in e) ∙ zero_has b) refl) ∙ O.is b l }
 
 -- A table of last copies: what it has for a set's atoms.
 pub listed_last : (lasts : List ℕ) (x : ℕ) → Values last lasts → map (λ b. get_or lasts b 0) (listed x) ≡ map last (listed x)

@@ -4,3 +4,4 @@ pub mod Bodies
 pub mod Made
 pub mod Kept
 pub mod Ready
+pub mod Given

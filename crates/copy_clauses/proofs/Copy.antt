@@ -13,7 +13,7 @@ use Rattle.writer.proofs.Writing.{wrote_append, wrote_length}
 use Rattle.copies.specs.inner.Kept.{Inside}
 use Rattle.copies.proofs.Keeping.{bodies_number}
 use Rattle.copy_clauses.specs.inner.Ends.{rules_words, first_words, copy_clause_words, CopyPut}
-use Rattle.copy_clauses.specs.declared.CopyPlace.{CopyPlace}
+use Rattle.copy_clauses.specs.declared.Ends.{Ends}
 
 -- How many words a clause has, and the clause of a copy's rules.
 pub clause_words_lem : (c : Clause) → length (clause_words c) ≡ length c + 1
@@ -27,36 +27,39 @@ first_words_lem h d k =
     omega arith
 
 -- A copy.
-module _ (t p vars entries : List ℕ) (c : CopyPlace) where
+module _ (t p vars listed : List ℕ) (c : Ends) (v : ℕ) where
+  abbrev kept : ℕ
+  kept = length listed
+
   abbrev firsts : List ℤ
-  firsts = first_words c.var c.ends.rule c.kept
+  firsts = first_words v c.rule kept
 
   abbrev seconds : List ℤ
-  seconds = rules_words t p vars c.var c.ends.rule entries c.kept
+  seconds = rules_words t p vars v c.rule listed
 
-  copy_is : copy_clause_words t p vars c.ends.rule c.var entries c.kept ≡ firsts ++ seconds
+  copy_is : copy_clause_words t p vars c.rule v listed ≡ firsts ++ seconds
   unfolding copy_clause_words copy_clauses signed_words flat_map first_words rules_words
-  copy_is = ap (λ n. first_words c.var c.ends.rule n ++ seconds) (bodies_number t p vars entries c.kept)
+  copy_is = ap (λ n. first_words v c.rule n ++ seconds) (bodies_number t p vars listed)
 
-  first_size : length firsts ≡ c.kept + 2
+  first_size : length firsts ≡ kept + 2
   unfolding first_words
-  first_size = first_words_lem c.var c.ends.rule c.kept
+  first_size = first_words_lem v c.rule kept
 
-  copy_size : length (copy_clause_words t p vars c.ends.rule c.var entries c.kept) ≡ c.kept + 2 + length seconds
+  copy_size : length (copy_clause_words t p vars c.rule v listed) ≡ kept + 2 + length seconds
   copy_size = let e = ap length copy_is ∙ length-append firsts seconds in let f = first_size in omega arith
 
-  pub copy_numbers : c.ends.rule < 1000000 → Inside entries c.kept → c.ends.rule + c.kept < 2147483648
+  pub copy_numbers : c.rule < 1000000 → Inside listed → c.rule + length listed < 2147483648
   copy_numbers l I = let f = I.few in omega arith
 
-  module _ (old : List ℤ) (room : c.ends.at + length (copy_clause_words t p vars c.ends.rule c.var entries c.kept) ≤ length old) where
-    pub copy_first : c.ends.at + c.kept + 2 ≤ length old
+  module _ (old : List ℤ) (room : c.at + length (copy_clause_words t p vars c.rule v listed) ≤ length old) where
+    pub copy_first : c.at + length listed + 2 ≤ length old
     copy_first = let e = copy_size in omega arith
 
-    pub copy_second : (mid : List ℤ) (next : ℕ) → Wrote old c.ends.at (first_words c.var c.ends.rule c.kept) mid next
-        → next + length (rules_words t p vars c.var c.ends.rule entries c.kept) ≤ length mid
+    pub copy_second : (mid : List ℤ) (next : ℕ) → Wrote old c.at (first_words v c.rule (length listed)) mid next
+        → next + length (rules_words t p vars v c.rule listed) ≤ length mid
     copy_second mid next W = let n = wrote_length _ _ _ _ _ W in let e = copy_size in let f = first_size in let m = W.moved in omega arith
 
-  pub copy_put : (old mid new : List ℤ) (next r : ℕ) → Wrote old c.ends.at (first_words c.var c.ends.rule c.kept) mid next
-      → Wrote mid next (rules_words t p vars c.var c.ends.rule entries c.kept) new r
-      → CopyPut t p vars c entries old new (record { at = r; rule = c.ends.rule + c.kept })
-  copy_put old mid new next r W K = record { wrote = subst (λ ws. Wrote old c.ends.at ws new r) (sym copy_is) (wrote_append _ _ _ _ _ _ _ _ W K); rule = refl }
+  pub copy_put : (old mid new : List ℤ) (next r : ℕ) → Wrote old c.at (first_words v c.rule (length listed)) mid next
+      → Wrote mid next (rules_words t p vars v c.rule listed) new r
+      → CopyPut t p vars c v listed old new (record { at = r; rule = c.rule + length listed })
+  copy_put old mid new next r W K = record { wrote = subst (λ ws. Wrote old c.at ws new r) (sym copy_is) (wrote_append _ _ _ _ _ _ _ _ W K); rule = refl }

@@ -1,10 +1,12 @@
 -- Laws of writing the clauses of the rules kept for a copy, and the clause of their variables.
 use mathlib.Core.List.{List, [], ◌∷◌, ◌++◌, map, map-map, flat_map}
-use mathlib.Core.Path.{◌≡◌, refl, sym, ◌∙◌, ap, subst}
-use Prim.Native.Nat.{ℕ, zero, suc, ◌+◌, ◌-◌, ◌≤◌, ◌<◌}
+use mathlib.Core.Path.{◌≡◌, refl, sym, ◌∙◌, ap, ap₂, subst}
+use Prim.Native.Nat.{ℕ, suc, ◌+◌, ◌-◌, ◌≤◌, ◌<◌}
 use native.Mathlib.Omega.{arith}
 use lib.IntN.{ℤ, pos, neg_ℤ}
-use lib.ListN.{length, length-map, get_or}
+use native.Mathlib.Numerals.{add-one}
+use lib.ListN.{length, length-map, get_or, drop, drop_of_length-le}
+use lib.Seq.{drop-cons}
 use Rattle.lists.specs.Lists.{range}
 use Rattle.lists.proofs.Nodup.{length_range}
 use Rattle.asp.specs.Program.{Body}
@@ -12,69 +14,55 @@ use Rattle.unfolding.specs.Clauses.{Literal, positive, negative, rule_clauses, r
 use Rattle.program.specs.inner.Held.{table_rule}
 use Rattle.program.specs.declared.TableRule.{TableRule}
 use Rattle.writer.specs.inner.Wrote.{Wrote}
-use Rattle.writer.proofs.Writing.{wrote_append, wrote_length}
-use Rattle.writer.proofs.Loops.{flat_map_one, RangeLeft, range_start, range_turn, range_room, range_length, range_end}
-use Rattle.copies.specs.inner.Bodies.{entry_body, bodies_by}
-use Rattle.copies.specs.inner.Kept.{ListedAt}
+use Rattle.writer.proofs.Writing.{Left, left_turn, left_room, left_end, wrote_append, wrote_length}
+use Rattle.writer.proofs.Loops.{flat_map_one, RangeLeft, range_turn, range_room, range_end}
+use Rattle.copies.specs.inner.Bodies.{body_by, entry_body, bodies_by}
 use Rattle.rule_clauses.specs.inner.Literals.{rule_words}
 use Rattle.rule_clauses.proofs.Rule.{signed_append}
 use Rattle.copy_clauses.specs.inner.Ends.{rules_words, numbers_words, first_words}
 
--- The clauses of rules one by one, their variables counted on from d + j.
-rules_one : (h d : ℕ) (g : ℕ → Body) (m j : ℕ) → flat_map (λ i. signed_words (rule_clauses h (d + i) (g i))) (range j m) ≡ signed_words (rules_clauses h (d + j) (map g (range j m)))
-unfolding flat_map range rules_clauses signed_words
-rules_one h d g zero j = refl
-rules_one h d g (suc m) j =
-    ap (λ ws. signed_words (rule_clauses h (d + j) (g j)) ++ ws) (rules_one h d g m (suc j) ∙ ap (λ v. signed_words (rules_clauses h v (map g (range (suc j) m)))) (let e : d + suc j ≡ suc (d + j) = omega arith in e))
-    ∙ sym (signed_append (rule_clauses h (d + j) (g j)) (rules_clauses h (suc (d + j)) (map g (range (suc j) m))))
-
 -- The loop over the rules.
-module _ (t p vars : List ℕ) (h d : ℕ) (entries : List ℕ) (k : ℕ) where
-  abbrev rule_one : ℕ → List ℤ
-  rule_one j = rule_words vars h (d + j) (table_rule t p (get_or entries j 0))
-
+module _ (t p vars : List ℕ) (h d : ℕ) (listed : List ℕ) where
   pub record RulesLeft (old : List ℤ) (at : ℕ) (cur : List ℤ) (next rule j : ℕ) : Type 0 where
     pub counted : rule ≡ d + j
-    pub left : RangeLeft rule_one old at 0 k cur next j
-
-  rules_are : flat_map rule_one (range 0 (k - 0)) ≡ rules_words t p vars h d entries k
-  unfolding rule_words rules_words bodies_by entry_body
-  rules_are =
-      let g : ℕ → Body = λ j. entry_body t p vars (get_or entries j 0) in
-      ap (λ x. flat_map rule_one (range 0 x)) (let e : k - 0 ≡ k = omega arith in e)
-      ∙ (rules_one h d g k 0
-      ∙ ap (λ v. signed_words (rules_clauses h v (map g (range 0 k)))) (let e : d + 0 ≡ d = omega arith in e))
+    pub left : Left old at (rules_words t p vars h d listed) cur next (rules_words t p vars h rule (drop j listed))
 
   module _ (old : List ℤ) (at : ℕ) where
-    pub rules_start : RulesLeft old at old at d 0
-    rules_start = record { counted = omega arith; left = range_start rule_one old at 0 k }
-
     module _ (cur : List ℤ) (next rule j : ℕ) (L : RulesLeft old at cur next rule j) where
-      module _ (lt : j < k) where
-        pub rules_variable : d + k < 2147483648 → rule < 2147483648
+      module _ (lt : j < length listed) where
+        pub rules_variable : d + length listed < 2147483648 → rule < 2147483648
         rules_variable l = let e = L.counted in omega arith
 
-        module _ (i : ℕ) (r : TableRule) (I : ListedAt entries j i) (e : r ≡ table_rule t p i) where
-          here : rule_words vars h rule r ≡ rule_one j
-          here = rw (L.counted, e, I.is) refl
+        module _ (i : ℕ) (I : i ≡ get_or listed j 0) where
+          module _ (r : TableRule) (e : r ≡ table_rule t p i) where
+            abbrev behind_one : List ℤ
+            behind_one = rules_words t p vars h (rule + 1) (drop (j + 1) listed)
 
-          pub rules_room : at + length (rules_words t p vars h d entries k) ≤ length old → next + length (rule_words vars h rule r) ≤ length cur
-          rules_room l =
-              subst (λ ws. next + length ws ≤ length cur) (sym here)
-              (range_room rule_one old at 0 k cur next j L.left lt (subst (λ ws. at + length ws ≤ length old) (sym rules_are) l))
+            step : rules_words t p vars h rule (drop j listed) ≡ rule_words vars h rule r ++ behind_one
+            unfolding rules_words bodies_by entry_body rules_clauses rule_words
+            step =
+                let bodies : List ℕ → List Body = map (entry_body t p vars) in
+                let here : table_rule t p (get_or listed j 0) ≡ r = ap (table_rule t p) (sym I) ∙ sym e in
+                ap (λ l. signed_words (rules_clauses h rule (bodies l))) (drop-cons listed j 0 lt ∙ ap (λ k. get_or listed j 0 ∷ drop k listed) (sym (add-one j)))
+                ∙ (signed_append (rule_clauses h rule (entry_body t p vars (get_or listed j 0))) (rules_clauses h (suc rule) (bodies (drop (j + 1) listed)))
+                ∙ ap₂ (λ (x : TableRule) v. signed_words (rule_clauses h rule (body_by vars x)) ++ signed_words (rules_clauses h v (bodies (drop (j + 1) listed)))) here (sym (add-one rule)))
 
-          pub rules_turn : (new : List ℤ) (behind : ℕ) → Wrote cur next (rule_words vars h rule r) new behind → RulesLeft old at new behind (rule + 1) (j + 1)
-          rules_turn new behind W =
-              record {
-                counted = let c = L.counted in omega arith;
-                left = range_turn rule_one old at 0 k cur next j L.left lt new behind (subst (λ ws. Wrote cur next ws new behind) here W);
-              }
+            pub rules_room : at + length (rules_words t p vars h d listed) ≤ length old → next + length (rule_words vars h rule r) ≤ length cur
+            rules_room l = left_room old at (rules_words t p vars h d listed) cur (rule_words vars h rule r) _ behind_one next L.left step l
 
-      pub rules_length : length cur ≡ length old
-      rules_length = range_length rule_one old at 0 k cur next j L.left
+            pub rules_turn : (new : List ℤ) (behind : ℕ) → Wrote cur next (rule_words vars h rule r) new behind → RulesLeft old at new behind (rule + 1) (j + 1)
+            rules_turn new behind W =
+                record {
+                  counted = let c = L.counted in omega arith;
+                  left = left_turn old at (rules_words t p vars h d listed) cur new (rule_words vars h rule r) _ behind_one next behind L.left step W;
+                }
 
-      pub rules_end : k ≤ j → Wrote old at (rules_words t p vars h d entries k) cur next
-      rules_end l = subst (λ ws. Wrote old at ws cur next) rules_are (range_end rule_one old at 0 k cur next j L.left l)
+      none : rules_words t p vars h rule [] ≡ []
+      unfolding rules_words bodies_by rules_clauses signed_words flat_map
+      none = refl
+
+      pub rules_end : length listed ≤ j → Wrote old at (rules_words t p vars h d listed) cur next
+      rules_end l = left_end old at (rules_words t p vars h d listed) cur _ next L.left (ap (rules_words t p vars h rule) (drop_of_length-le listed l) ∙ none)
 
 -- The literals from .. to - 1.
 abbrev pub NumbersLeft : List ℤ → ℕ → ℕ → ℕ → List ℤ → ℕ → ℕ → Type 0
@@ -89,9 +77,6 @@ unfolding numbers_words
 numbers_size from to = length-map (map positive (range from (to - from))) signed ∙ (length-map {B = Literal} (range from (to - from)) positive ∙ length_range from (to - from))
 
 module _ (old : List ℤ) (at from to : ℕ) where
-  pub numbers_start : NumbersLeft old at from to old at from
-  numbers_start = range_start (λ v. pos v ∷ []) old at from to
-
   module _ (cur : List ℤ) (next v : ℕ) (L : NumbersLeft old at from to cur next v) where
     module _ (lt : v < to) where
       pub numbers_room : at + length (numbers_words from to) ≤ length old → next < length cur
@@ -99,9 +84,6 @@ module _ (old : List ℤ) (at from to : ℕ) where
 
       pub numbers_turn : (new : List ℤ) (behind : ℕ) → Wrote cur next (pos v ∷ []) new behind → NumbersLeft old at from to new behind (v + 1)
       numbers_turn new behind W = range_turn (λ v. pos v ∷ []) old at from to cur next v L lt new behind W
-
-    pub numbers_length : length cur ≡ length old
-    numbers_length = range_length (λ v. pos v ∷ []) old at from to cur next v L
 
     pub numbers_end : to ≤ v → Wrote old at (numbers_words from to) cur next
     numbers_end l = subst (λ ws. Wrote old at ws cur next) (numbers_are from to) (range_end (λ v. pos v ∷ []) old at from to cur next v L l)

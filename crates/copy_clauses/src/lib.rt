@@ -9,10 +9,8 @@ ghost use Rattle.copies.specs.inner.Kept.{Inside};
 ghost use Rattle.rule_clauses.specs.inner.Literals.{SmallVariables};
 ghost use Rattle.copy_clauses.specs.inner.Ends.{rules_words, numbers_words, first_words, CopyReady, CopyPut};
 
-use copies::listed_at;
-use program::rule_at;
+use copies::Unfolding;
 use rule_clauses::put_rule;
-use tables::{Program, Table};
 use writer::{put_negated, put_plain};
 
 // Where the next word goes, and the variable of the next rule.
@@ -22,42 +20,29 @@ pub struct Ends {
     pub rule: u32,
 }
 
-// Where a copy's words go and the variable of its first rule, its own variable, and how many rules it keeps.
-#[derive(Clone, Copy)]
-pub struct CopyPlace {
-    pub ends: Ends,
-    pub var: u32,
-    pub kept: usize,
-}
-
-// The clauses of a copy's rules; their variables are counted on.
+// The clauses of a copy's rules, whose entries are listed; their variables are counted on.
 fn put_rules(
     out: &mut [i32],
-    place: CopyPlace,
-    entries: &[u8; 192],
-    records: &Table,
-    program: &Program,
+    from: Ends,
+    var: u32,
+    u: &Unfolding,
+    listed: &[u8],
     vars: &[u32; 64],
     lasts: &[u32; 64],
 ) -> usize
-    requires { SmallVariables vars.now × Values last lasts.now × Inside entries.now place.kept
-        × (place.var < 2147483648) × (place.ends.rule + place.kept < 2147483648)
-        × (place.ends.at + length (rules_words records.now program.now vars.now place.var place.ends.rule entries.now place.kept) ≤ length out.old) }
-    ensures { Wrote out.old place.ends.at
-        (rules_words records.now program.now vars.now place.var place.ends.rule entries.now place.kept)
+    requires { SmallVariables vars.now × Values last lasts.now × Inside listed.now
+        × (var < 2147483648) × (from.rule + length listed.now < 2147483648)
+        × (from.at + length (rules_words u.now.records.now u.now.program.now vars.now var from.rule listed.now) ≤ length out.old) }
+    ensures { Wrote out.old from.at
+        (rules_words u.now.records.now u.now.program.now vars.now var from.rule listed.now)
         out.new result }
 {
-    let var = place.var;
-    let k = place.kept;
-    let mut rule = place.ends.rule;
-    let mut next = place.ends.at;
-    let mut j = 0;
-    while j < k {
-        let i = listed_at(entries, k, j);
-        let entry = rule_at(records, program, i);
+    let mut rule = from.rule;
+    let mut next = from.at;
+    for &i in listed {
+        let entry = u.rule_at(usize::from(i));
         next = put_rule(out, next, var, rule, entry, vars, lasts);
         rule += 1;
-        j += 1;
     }
     next
 }
@@ -68,10 +53,8 @@ fn put_range(out: &mut [i32], at: usize, from: u32, to: u32) -> usize
     ensures { Wrote out.old at (numbers_words from to) out.new result }
 {
     let mut next = at;
-    let mut v = from;
-    while v < to {
+    for v in from..to {
         next = put_plain(out, next, v);
-        v += 1;
     }
     next
 }
@@ -86,29 +69,26 @@ fn put_first(out: &mut [i32], at: usize, h: u32, d: u32, k: u32) -> usize
     put_plain(out, end, 0)
 }
 
-// The clauses of a copy.
+// The clauses of a copy, its words and its rules' variables from these ends on. The entries of the rules that it keeps are listed.
 pub fn put_copy(
     out: &mut [i32],
-    place: CopyPlace,
-    entries: &[u8; 192],
-    records: &Table,
-    program: &Program,
+    from: Ends,
+    var: u32,
+    u: &Unfolding,
+    listed: &[u8],
     vars: &[u32; 64],
     lasts: &[u32; 64],
 ) -> Ends
-    requires { CopyReady records.now program.now vars.now lasts.now place entries.now out.old }
-    ensures { CopyPut records.now program.now vars.now place entries.now
+    requires { CopyReady u.now.records.now u.now.program.now vars.now lasts.now from var listed.now out.old }
+    ensures { CopyPut u.now.records.now u.now.program.now vars.now from var listed.now
         out.old out.new result }
 {
-    let var = place.var;
-    let rule = place.ends.rule;
-    let kept = place.kept;
-    let rules = kept as u32;
-    let at = put_first(out, place.ends.at, var, rule, rules);
+    let rule = from.rule;
+    let rules = listed.len() as u32;
+    let at = put_first(out, from.at, var, rule, rules);
     let ends = Ends { at, rule };
-    let behind = CopyPlace { ends, var, kept };
     Ends {
-        at: put_rules(out, behind, entries, records, program, vars, lasts),
+        at: put_rules(out, ends, var, u, listed, vars, lasts),
         rule: rule + rules,
     }
 }

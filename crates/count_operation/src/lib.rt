@@ -1,31 +1,18 @@
 // Counting the stable models of a sheet.
 #![tactic(auto)]
 
-ghost use Rattle.std.specs.Prelude.{◌≡◌};
-ghost use Rattle.asp.specs.Count.{verdict};
-ghost use Rattle.operations.specs.Outcome.{from_verdict, from_count};
+ghost use Rattle.operations.specs.Outcome.{from_count};
 ghost use Rattle.operations.specs.Calls.{nothing, Promised};
 ghost use Rattle.operations.specs.Calls as call;
 ghost use Rattle.operations.specs.Requirements.{Supported};
 
-use operations::{CountAnswer, Verdict};
+use operations::{Counted, Verdict};
+use refusals::Refusal;
 use sheet::Limits;
 use sheet_check::check_records;
 
-fn verdict_on(states: u64) -> Verdict
-    ensures { from_verdict result ≡ verdict states }
-{
-    if states == 0 {
-        return Verdict::None;
-    }
-    if states == 1 {
-        return Verdict::Clear;
-    }
-    Verdict::Split
-}
-
 // Counting the stable models.
-pub fn count(limits: Limits, s: &[u8]) -> CountAnswer
+pub fn count(limits: Limits, s: &[u8]) -> Result<Counted, Refusal>
     requires { Supported limits }
     ensures { Promised limits (call.count s.now) (from_count result) nothing }
 {
@@ -42,17 +29,12 @@ pub fn count(limits: Limits, s: &[u8]) -> CountAnswer
         &mut names,
         &mut sets,
         &mut ancestors,
-    );
-    let refusal = a.refusal;
-    if refusal != 0 {
-        return CountAnswer::Refused(refusal);
-    }
-    let m = a.records;
-    let found = counting::count(m, &mut records, &ancestors);
-    let states = found.states;
-    if found.crowded {
-        return CountAnswer::Refused(11);
-    }
-    let v = verdict_on(states);
-    CountAnswer::Counted(states, v)
+    )?;
+    let Some(states) = counting::count(a.records, &mut records, &ancestors) else {
+        return Err(Refusal::Negated);
+    };
+    Ok(Counted {
+        states,
+        verdict: Verdict::on(states),
+    })
 }

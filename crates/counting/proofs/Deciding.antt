@@ -1,12 +1,12 @@
 -- From the records to the number of their program's stable models.
-use mathlib.Core.Bool.{true, false, ◌&&◌, ◌||◌, and-true}
+use mathlib.Core.Bool.{true, ◌&&◌, ◌||◌, and-true}
 use mathlib.Core.List.Memᴰ
 use mathlib.Core.List.{List, Memᴰ}
 use mathlib.Core.Logic.{⊎_elim}
 use mathlib.Core.Path.{◌≡◌, refl, sym, ◌∙◌, ap, subst, fun_ext}
 use Prim.Native.Nat.{ℕ, ◌-◌, ◌≤◌, ◌<◌}
 use native.Mathlib.Omega.{arith}
-use borrow.Author.Tests.{eqb-true, eq-eqb, ltb-true, ltb-false, lt-ltb, le-ltb}
+use borrow.Author.Tests.{eqb-true, eq-eqb, ltb-true, ltb-false}
 use lib.Dec.{eqb, ltb}
 use lib.ListN.{length}
 use Rattle.lists.specs.Lists.{any, filter, member, range}
@@ -34,7 +34,7 @@ use Rattle.choice.proofs.Expanded.{head_written, neg_written}
 use Rattle.choice.proofs.Number.{count_free}
 use Rattle.counting.specs.DecisionAtoms.{asks_for, decision_atoms}
 use Rattle.counting.specs.inner.Gates.{GatesOf}
-use Rattle.counting.specs.inner.RecordsCounted.{ModelsCounted, RecordsCounted}
+use Rattle.counting.specs.inner.RecordsCounted.{ModelsCounted, Crowded, Exact}
 
 -- A rule or a choice rule is no constraint.
 rule_not_one : (r : Record) → is_rule r ≡ true → r.kind ≡ 1 → ⊥
@@ -259,13 +259,8 @@ module _ (m : ℕ) (t : List ℕ) (x : ℕ) (X : AskedIn t m x) (W : ExactSets m
   unfolding listed
   asked_number n l A = Z.is ∙ ap length (asked_list m t n l A W x X)
 
-  pub found_many : 16 < z → RecordsCounted m t (record { crowded = true; states = 0 })
-  found_many l =
-      record {
-        many = λ n h A. sym (lt-ltb 16 (length (decision_atoms n (records_at t 0 m))) (let e = asked_number n h A in omega arith));
-        exact = λ e. absurd (true_false refl e);
-      }
+  pub found_many : 16 < z → Crowded m t
+  found_many l = record { many = λ n h A. let e = asked_number n h A in omega arith }
 
-  pub found_exact : (c : ℕ) → z ≤ 16 → ModelsCounted m t c → RecordsCounted m t (record { crowded = false; states = c })
-  found_exact c l K =
-      record { many = λ n h A. sym (le-ltb 16 (length (decision_atoms n (records_at t 0 m))) (let e = asked_number n h A in omega arith)); exact = λ _. K }
+  pub found_exact : (c : ℕ) → z ≤ 16 → ModelsCounted m t c → Exact m t c
+  found_exact c l K = record { few = λ n h A. let e = asked_number n h A in omega arith; counted = K }

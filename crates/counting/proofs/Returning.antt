@@ -3,8 +3,7 @@ use mathlib.Core.Bool.{true, false, not}
 use mathlib.Core.List.{List}
 use mathlib.Core.Logic.{⊎_elim}
 use mathlib.Core.Path.{◌≡◌, refl, sym, ◌∙◌, ap, subst}
-use Prim.Native.Nat.{ℕ, ◌+◌, ◌%◌, ◌≤◌, ◌<◌}
-use native.Mathlib.Nat.{mod-eq_of_lt}
+use Prim.Native.Nat.{ℕ, ◌+◌, ◌≤◌, ◌<◌, min}
 use native.Mathlib.Omega.{arith}
 use borrow.Author.Tests.{eqb-true, eqb-false}
 use lib.Dec.{eqb}
@@ -18,7 +17,7 @@ use Rattle.bits.proofs.Digits.{zero_has}
 use Rattle.tables.specs.inner.Rows.{row_at}
 use Rattle.tables.specs.declared.SheetRecord.{SheetRecord}
 use Rattle.search.specs.inner.Rules.{LowHeads, Returning}
-use Rattle.counting.specs.inner.Returns.{Entered, Firsts, Sooner}
+use Rattle.counting.specs.inner.Returns.{Entered, Firsts}
 
 -- Entering j for the atoms of a set, those left still to do.
 pub record Entering (at₀ : List ℕ) (set j left : ℕ) (at : List ℕ) : Type 0 where
@@ -31,18 +30,17 @@ module _ (at₀ : List ℕ) (x j : ℕ) where
   pub entering_start : length at₀ ≡ 64 → Entering at₀ x j x at₀
   entering_start l = record { long = l; within = λ a t. t; new = λ a t f. absurd (true_false t f); old = λ a f. refl }
 
-  pub entering_turn : (left a left' : ℕ) (at : List ℕ) → Entering at₀ x j left at → j < 256 → Lowest left a → Rest left left' → Entering at₀ x j left' (set at a (j % 256))
-  entering_turn left a left' at E small L R =
+  pub entering_turn : (left a left' : ℕ) (at : List ℕ) → Entering at₀ x j left at → Lowest left a → Rest left left' → Entering at₀ x j left' (set at a j)
+  entering_turn left a left' at E L R =
       let W = R.without a L in
       record {
-        long = length-set at a (j % 256) ∙ E.long;
+        long = length-set at a j ∙ E.long;
         within = λ b t. E.within b (and_left (has left b) (not (eqb b a)) (sym (W.members b) ∙ t));
         new = λ b t f. by_bool (eqb b a)
-            (λ q. ap (λ i. get_or (set at a (j % 256)) i 0) (eqb-true b a q)
-            ∙ (get_or-set_same at a (j % 256) 0 (let n = E.long in let l = L.low in omega arith) ∙ mod-eq_of_lt (omega arith)))
-            (λ q. get_or-set_other at a b (j % 256) 0 (eqb-false b a q)
+            (λ q. ap (λ i. get_or (set at a j) i 0) (eqb-true b a q) ∙ get_or-set_same at a j 0 (let n = E.long in let l = L.low in omega arith))
+            (λ q. get_or-set_other at a b j 0 (eqb-false b a q)
             ∙ E.new b t (is_false (λ u. true_false (W.members b ∙ and_intro u (not_intro q)) f)));
-        old = λ b f. get_or-set_other at a b (j % 256) 0 (λ q. true_false (subst (λ i. has x i ≡ true) (sym q) (E.within a L.is)) f) ∙ E.old b f;
+        old = λ b f. get_or-set_other at a b j 0 (λ q. true_false (subst (λ i. has x i ≡ true) (sym q) (E.within a L.is)) f) ∙ E.old b f;
       }
 
   pub entering_end : (left : ℕ) (at : List ℕ) → Entering at₀ x j left at → left ≤ 0 → Entered at₀ x j at
@@ -117,20 +115,18 @@ filling_start t k =
     record { long = length-replicate {A = ℕ} 128 0; within = omega arith; done = record { near = λ i l. absurd (omega arith); lacks = λ i l. absurd (omega arith) } }
 
 pub filling_turn : (t at first : List ℕ) (r : SheetRecord) (k j h next : ℕ) → Filling t at k j → j < k → k ≤ 128 → Firsts t k first → r ≡ row_at t j → h ≡ r.head
-    → Sooner (get_or first h 0) (j + 1) next → Filling t (set at j (next % 256)) k (j + 1)
+    → next ≡ min (get_or first h 0) (j + 1) → Filling t (set at j next) k (j + 1)
 filling_turn t at first r k j h next E l few F same e S =
     record {
-      long = length-set at j (next % 256) ∙ E.long;
+      long = length-set at j next ∙ E.long;
       within = omega arith;
       done = record {
         near = λ i m. by_bool (eqb i j)
-            (λ q. let s = eqb-true i j q in let v = here i s in let n = S.second in omega arith)
+            (λ q. let s = eqb-true i j q in let v = here i s in omega arith)
             (λ q. let ne = eqb-false i j q in let v = there i ne in let n = E.done.near i (omega arith) in omega arith);
         lacks = λ i m i' lt. by_bool (eqb i j)
             (λ q. let s = eqb-true i j q in
             let v = here i s in
-            let n = S.first in
-            let n' = S.second in
             ap (λ b. has (row_at t i').pos b) (ap (λ i. (row_at t i).head) s ∙ sym head) ∙ F.lacks h i' (omega arith) (omega arith))
             (λ q. let ne = eqb-false i j q in let v = there i ne in E.done.lacks i (omega arith) i' (omega arith));
       };
@@ -139,13 +135,13 @@ filling_turn t at first r k j h next E l few F same e S =
     head : h ≡ (row_at t j).head
     head = rw same at e
 
-    here : (i : ℕ) → i ≡ j → get_or (set at j (next % 256)) i 0 ≡ next
+    here : (i : ℕ) → i ≡ j → get_or (set at j next) i 0 ≡ next
     here i s =
-        ap (λ i. get_or (set at j (next % 256)) i 0) s
-        ∙ (get_or-set_same at j (next % 256) 0 (let n = E.long in omega arith) ∙ mod-eq_of_lt (let n = S.second in omega arith))
+        ap (λ i. get_or (set at j next) i 0) s
+        ∙ get_or-set_same at j next 0 (let n = E.long in omega arith)
 
-    there : (i : ℕ) → (i ≡ j → ⊥) → get_or (set at j (next % 256)) i 0 ≡ get_or at i 0
-    there i ne = get_or-set_other at j i (next % 256) 0 ne
+    there : (i : ℕ) → (i ≡ j → ⊥) → get_or (set at j next) i 0 ≡ get_or at i 0
+    there i ne = get_or-set_other at j i next 0 ne
 
 pub filling_end : (t at : List ℕ) (k j : ℕ) → Filling t at k j → k ≤ j → Returning t at k
 filling_end t at k j E l = let w = E.within in let e : j ≡ k = omega arith in subst (Returning t at) e E.done

@@ -1,5 +1,4 @@
 pub mod Split
-pub mod Signs
 pub mod Words
 pub mod Lines
 pub mod Clauses

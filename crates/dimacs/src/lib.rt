@@ -1,13 +1,12 @@
 // The clause program's input and text: where the sheet ends, and DIMACS CNF.
 #![tactic(auto)]
 
-ghost use Rattle.std.specs.Prelude.{◌++◌, ◌≡◌, ◌+◌, ◌≤◌, nat_abs, length};
+ghost use Rattle.std.specs.Prelude.{◌++◌, ◌+◌, ◌≤◌, length};
 ghost use Rattle.writer.specs.inner.Wrote.{Wrote};
 ghost use Rattle.dimacs.specs.Text.{header_text};
 ghost use Rattle.dimacs.specs.inner.Split.{SheetEnd};
 ghost use Rattle.dimacs.specs.inner.Words.{sign_text, end_text, word_text, words_text};
 
-use bits::byte_at;
 use text::{put_decimal, put_text};
 use writer::put;
 
@@ -18,22 +17,8 @@ pub fn sheet_end(input: &[u8]) -> usize
     if input.len() < 3 {
         return input.len();
     }
-    let e = byte_at(input, 1) * 256 + byte_at(input, 2);
-    if input.len() < e {
-        return input.len();
-    }
-    e
-}
-
-// A word without its sign.
-fn magnitude(w: i32) -> usize
-    ensures { result ≡ nat_abs w }
-{
-    let x = w as i64;
-    if x < 0 {
-        return (0 - x) as usize;
-    }
-    x as usize
+    let e = usize::from(input[1]) * 256 + usize::from(input[2]);
+    e.min(input.len())
 }
 
 // A minus sign, where the word is negative.
@@ -63,7 +48,7 @@ fn put_word(out: &mut [u8], at: usize, w: i32) -> usize
     requires { at + length (word_text w) ≤ length out.old }
     ensures { Wrote out.old at (word_text w) out.new result }
 {
-    let v = magnitude(w);
+    let v = w.unsigned_abs() as usize;
     let a = put_sign(out, at, w);
     let b = put_decimal(out, a, v);
     put_end(out, b, v)
@@ -75,10 +60,8 @@ fn put_words(out: &mut [u8], at: usize, words: &[i32]) -> usize
     ensures { Wrote out.old at (words_text words.now) out.new result }
 {
     let mut next = at;
-    let mut i = 0;
-    while i < words.len() {
-        next = put_word(out, next, words[i]);
-        i += 1;
+    for &w in words {
+        next = put_word(out, next, w);
     }
     next
 }

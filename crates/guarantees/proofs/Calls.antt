@@ -10,7 +10,7 @@ use Rattle.sheet.proofs.Questions.{first_yes, yes_first, first_no, no_first}
 use Rattle.operations.specs.Outcome.{Outcome, refused, answered}
 use Rattle.operations.specs.Calls.{Call, Buffer, describe, questions, outcome_of, left, Service, Promised}
 use Rattle.operations.specs.inner.Refusals.{call_refusal}
-use Rattle.operations.proofs.Promises.{outcome_refused, outcome_answered, promised_refused, promised_answered}
+use Rattle.operations.proofs.Promises.{outcome_refused, outcome_answered, promised_number_refused, promised_answered}
 use Rattle.guarantees.specs.Demands.{Decided, refuses, answers, Demand1}
 
 module _ (L : Limits) (c : Call) (o : Outcome) (b : Buffer) where
@@ -44,7 +44,7 @@ module _ (L : Limits) (c : Call) (o : Outcome) (b : Buffer) where
   -- What is decided so is promised.
   decided_promised : Decided L c o b → Promised L c o b
   decided_promised (refuses k F e m) =
-      let P = promised_refused L c k (sym (no_first (questions L c) k F)) (λ z. let p = F.nonzero in omega arith) in
+      let P = promised_number_refused L c k (sym (no_first (questions L c) k F)) (λ z. let p = F.nonzero in omega arith) in
       record { says = e ∙ P.says; leaves = m ∙ P.leaves }
   decided_promised (answers y e m) =
       let P = promised_answered L c (yes_first (questions L c) y) in

@@ -32,7 +32,8 @@ use Rattle.choice.proofs.Number.{cuts, cuts_listed, count_written}
 use Rattle.lparse_format.specs.Decoded.{read_lparse}
 use Rattle.lparse_format.specs.Meaning.{SameModels}
 use Rattle.lparse_format.proofs.Claims.{lparse_is_read, export_is_faithful}
-use Rattle.operations.specs.Outcome.{Outcome, refused, answered, code}
+use Rattle.operations.specs.Outcome.{Outcome, refused, answered}
+use Rattle.operations.specs.Verdicts.{code}
 use Rattle.operations.specs.Outputs.{lparse_output, missing_output, unfolded_output, clauses_output, clause_numbers}
 use Rattle.operations.specs.Questions.{question9, question10, question14}
 use Rattle.operations.specs.Calls.{Call, sheet, with_sequence, Buffer, naturals, integers, over, describe, input_questions, questions, Service, Promised}

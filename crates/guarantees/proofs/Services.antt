@@ -1,6 +1,6 @@
 -- Two services of one format answer the same, but for 15 and 16.
 use mathlib.Core.Bool.{Bool, true, false, ◌&&◌, cond}
-use mathlib.Core.List.{List, []}
+use mathlib.Core.List.{List, [], ◌∷◌}
 use mathlib.Core.Path.{◌≡◌, refl, sym, ◌∙◌, ap, subst}
 use Prim.Native.Nat.{ℕ, ◌+◌, ◌≤◌}
 use native.Mathlib.Omega.{arith}
@@ -12,6 +12,10 @@ use Rattle.lists.proofs.Bools.{by_bool, and_intro, and_left, and_right}
 use Rattle.lists.proofs.Members.{all_mono}
 use Rattle.unfolding.specs.Default.{members}
 use Rattle.asp.specs.Program.{Program}
+use Rattle.std.proofs.Common.{Result, Ok, Err}
+use Rattle.refusals.specs.declared.Refusal.{Refusal}
+use Rattle.refusals.specs.Numbers.{number}
+use Rattle.refusals.proofs.Asking.{number_is}
 use Rattle.sheet.specs.Questions.{ask, ◌then◌, first_refusal, AllYes}
 use Rattle.sheet.specs.Format.{atoms_byte, limited, form_questions}
 use Rattle.sheet.specs.inner.Walk.{form_refusal}
@@ -21,12 +25,13 @@ use Rattle.sheet.specs.declared.Limits.{Limits}
 use Rattle.sheet.proofs.Questions.{ask_passed, then_passed, then_zero, then_refused, yes_first}
 use Rattle.sheet.proofs.Sequences.{fits_out}
 use Rattle.components.specs.Limit.{components_fit}
-use Rattle.operations.specs.Outcome.{Outcome, refused, outcome}
-use Rattle.operations.specs.Outputs.{slice, body_start}
+use Rattle.operations.specs.Outcome.{Outcome, refused, answered, outcome, from_place}
+use Rattle.operations.specs.Outputs.{slice, body_start, body_end, body_positives}
 use Rattle.operations.specs.Questions.{question13, question7, question15, question8, question16}
 use Rattle.operations.specs.Calls.{Call, Input, sheet, with_sequence, Buffer, describe, service_questions, outcome_of, left, Service, Promised}
 use Rattle.operations.specs.Calls as call
-use Rattle.operations.specs.Bodies.{body_refusal, shifted, body_at, nowhere, body_place}
+use Rattle.operations.specs.Bodies.{body_refusal, shifted, body_place}
+use Rattle.operations.specs.declared.BodyPlace.{BodyPlace}
 use Rattle.operations.specs.inner.Refusals.{sheet_refusal, input_refusal, call_refusal}
 use Rattle.operations.proofs.Questions.{bytes_parted, graph_parted, sheet_parted, sequence_parted, sheet_alone, call_parted}
 use Rattle.operations.proofs.Promises.{promised_number}
@@ -187,11 +192,26 @@ body_agree L M F N i s ne =
     call_agree L M F N (call.body i s)
     (ne, call_holds (Other 16) L (λ k l e. omega arith) (call.body i s) (λ _ _. ask_holds (Other 16) _ 15 (λ e. omega arith) (λ e. omega arith)))
 
+-- No two results of finding a body stand for one outcome.
+place_is : (r t : Result BodyPlace Refusal) → from_place r ≡ from_place t → r ≡ t
+place_is (Ok p) (Ok o) e =
+    let vs : answered (p.start ∷ p.end ∷ p.positives ∷ []) ≡ answered (o.start ∷ o.end ∷ o.positives ∷ []) = e in
+    let a : p.start ≡ o.start = cc in
+    let b : p.end ≡ o.end = cc in
+    let c : p.positives ≡ o.positives = cc in
+    ap (λ x. Ok (record { start = x; end = p.end; positives = p.positives })) a
+    ∙ (ap (λ x. Ok (record { start = o.start; end = x; positives = p.positives })) b
+    ∙ ap (λ x. Ok (record { start = o.start; end = o.end; positives = x })) c)
+place_is (Err e) (Err f) same = let k : refused (number e) ≡ refused (number f) = same in ap Err (number_is e f cc)
+place_is (Ok p) (Err f) same = let k : answered (p.start ∷ p.end ∷ p.positives ∷ []) ≡ refused (number f) = same in let z : ◌≡◌ {A = ℕ} 0 1 = cc in absurd (omega arith)
+place_is (Err e) (Ok p) same = let k : refused (number e) ≡ answered (p.start ∷ p.end ∷ p.positives ∷ []) = same in let z : ◌≡◌ {A = ℕ} 0 1 = cc in absurd (omega arith)
+
 pub same_bodies : (L M : Limits) → OneFormat L M → Narrower L M → SameBodies L M
 unfolding body_place
 same_bodies L M F N =
     record {
-      places = λ i s r t P Q ne. Q.is ∙ (ap (λ k. cond (eqb k 0) (body_at i s) (nowhere k)) (sym (body_agree L M F N i s ne)) ∙ sym P.is);
+      places = λ i s r t P Q ne.
+          place_is t r (Q.is ∙ (ap (λ k. outcome k (body_start i s ∷ body_end i s ∷ body_positives i s ∷ [])) (sym (body_agree L M F N i s ne)) ∙ sym P.is));
       slices = λ i s r t base at place P Q ne.
           let same = sym (body_agree L M F N i s ne) in
           (Q.contents ∙ (ap (λ k. cond (eqb k 0) (slice i s) []) same ∙ sym P.contents), Q.lies ∙ (ap (λ k. shifted (cond (eqb k 0) (body_start i s) 0) base) same ∙ sym P.lies));

@@ -20,7 +20,8 @@ use Rattle.choice.specs.Written.{ProjectedAnswerSet, WrittenFaithful}
 use Rattle.lparse_format.specs.Program.{LparseProgram, lparse_program}
 use Rattle.lparse_format.specs.Decoded.{read_lparse}
 use Rattle.lparse_format.specs.Meaning.{SameModels}
-use Rattle.operations.specs.Outcome.{Outcome, refused, answered, code}
+use Rattle.operations.specs.Outcome.{Outcome, refused, answered}
+use Rattle.operations.specs.Verdicts.{code}
 use Rattle.operations.specs.Outputs.{default_output}
 use Rattle.operations.specs.Questions.{sheet_questions}
 use Rattle.operations.specs.Calls.{Call, with_sequence, Buffer, naturals, integers, describe, input_questions, questions, Service}

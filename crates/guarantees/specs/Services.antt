@@ -1,9 +1,10 @@
 -- Two services of one format with limits of their own (document 02, W5), as theorems of their answers.
-use Rattle.std.specs.Prelude.{List, ◌≡◌, ℕ, ◌≤◌}
+use Rattle.std.specs.Prelude.{List, ◌≡◌, ℕ, ◌≤◌, Result}
 use Rattle.sheet.specs.Questions.{AllYes}
 use Rattle.sheet.specs.declared.Limits.{Limits}
 use Rattle.operations.specs.Outcome.{Outcome, refused}
 use Rattle.operations.specs.Calls.{Call, Buffer, describe, service_questions, Service}
+use Rattle.refusals.specs.declared.Refusal.{Refusal}
 use Rattle.operations.specs.Bodies.{body_refusal, SlicePromise, FindPromise}
 use Rattle.operations.specs.declared.BodyPlace.{BodyPlace}
 use Rattle.guarantees.specs.Demands.{Demand1}
@@ -40,7 +41,7 @@ OneService = (L M : Limits) → OneFormat L M → Narrower L M → (S T : Servic
 
 -- A body that the service with the limits L does not refuse by 15 is the same in that with the limits M: its place, and its slice with where that lies.
 pub record SameBodies (L M : Limits) : Type 0 where
-  pub places : (i : ℕ) (s : List ℕ) (r t : BodyPlace) → FindPromise L i s r → FindPromise M i s t → (body_refusal L i s ≡ 15 → ⊥) → t ≡ r
+  pub places : (i : ℕ) (s : List ℕ) (r t : Result BodyPlace Refusal) → FindPromise L i s r → FindPromise M i s t → (body_refusal L i s ≡ 15 → ⊥) → t ≡ r
   pub slices : (i : ℕ) (s r t : List ℕ) (base at place : ℕ × ℕ) → SlicePromise L i s base r at → SlicePromise M i s base t place
       → (body_refusal L i s ≡ 15 → ⊥) → (t ≡ r) × (place ≡ at)
 

@@ -1,75 +1,78 @@
 // What a C interface does with an answer: it stores its numbers and returns 0, or it returns the number of the refusal.
 #![tactic(auto)]
 
-ghost use Rattle.std.specs.Prelude.{◌≡◌, ◌∷◌, [], ◌≤◌};
-ghost use Rattle.operations.specs.Outcome.{code, from_verdict, from_read, from_write, from_test, from_clauses, from_count};
-ghost use Rattle.interface.specs.Exported.{Stores, shown};
+ghost use Rattle.std.specs.Prelude.{◌∷◌, [], ◌≤◌, IfOk};
+ghost use Rattle.operations.specs.Outcome.{from_read, from_write, from_test, from_clauses, from_count};
+ghost use Rattle.interface.specs.Exported.{Stores, from_shown};
 
-use operations::{
-    BodyPlace, ClausesAnswer, CountAnswer, ReadAnswer, TestAnswer, Verdict, WriteAnswer,
-};
+use operations::{BodyPlace, ClauseNumbers, Counted};
+use reader::Header;
+use refusals::Refusal;
 
 // Of reading: the numbers of atoms and records.
-pub fn store_read(answer: ReadAnswer, atoms: &mut u64, records: &mut u64) -> u32
+pub fn store_read(answer: Result<Header, Refusal>, atoms: &mut u64, records: &mut u64) -> u32
     ensures { Stores (from_read answer) result
         (atoms.old ∷ records.old ∷ []) (atoms.new ∷ records.new ∷ []) }
 {
     match answer {
-        ReadAnswer::Refused(refusal) => refusal,
-        ReadAnswer::Header(n, m) => {
-            *atoms = n as u64;
-            *records = m as u64;
+        Ok(header) => {
+            *atoms = header.atoms as u64;
+            *records = header.records as u64;
             0
         }
+        Err(not_read) => not_read.into(),
     }
 }
 
 // Of finding a body: its number of positive atoms, where it starts, and its length.
-pub fn store_body(place: BodyPlace, positives: &mut u64, offset: &mut u64, length: &mut u64) -> u32
-    requires { place.start ≤ place.end }
-    ensures { Stores (shown place) result
+pub fn store_body(
+    place: Result<BodyPlace, Refusal>,
+    positives: &mut u64,
+    offset: &mut u64,
+    length: &mut u64,
+) -> u32
+    requires { IfOk place (λ p. p.start ≤ p.end) }
+    ensures { Stores (from_shown place) result
         (positives.old ∷ offset.old ∷ length.old ∷ [])
         (positives.new ∷ offset.new ∷ length.new ∷ []) }
 {
-    let refusal = place.refusal;
-    if refusal != 0 {
-        return refusal;
+    match place {
+        Ok(body) => {
+            *positives = body.positives as u64;
+            *offset = body.start as u64;
+            *length = (body.end - body.start) as u64;
+            0
+        }
+        Err(not_found) => not_found.into(),
     }
-    let p = place.positives;
-    let start = place.start;
-    let end = place.end;
-    *positives = p as u64;
-    *offset = start as u64;
-    *length = (end - start) as u64;
-    0
 }
 
 // Of an operation that writes: the length written.
-pub fn store_length(answer: WriteAnswer, written: &mut u64) -> u32
+pub fn store_length(answer: Result<usize, Refusal>, written: &mut u64) -> u32
     ensures { Stores (from_write answer) result (written.old ∷ []) (written.new ∷ []) }
 {
     match answer {
-        WriteAnswer::Refused(refusal) => refusal,
-        WriteAnswer::Length(length) => {
+        Ok(length) => {
             *written = length as u64;
             0
         }
+        Err(not_written) => not_written.into(),
     }
 }
 
 // Of testing a sequence: nothing.
-pub fn store_test(answer: TestAnswer) -> u32
+pub fn store_test(answer: Result<(), Refusal>) -> u32
     ensures { Stores (from_test answer) result [] [] }
 {
     match answer {
-        TestAnswer::Refused(refusal) => refusal,
-        TestAnswer::Passed => 0,
+        Ok(()) => 0,
+        Err(not_passed) => not_passed.into(),
     }
 }
 
 // Of writing clauses: the numbers of words written, of variables and of clauses.
 pub fn store_clauses(
-    answer: ClausesAnswer,
+    answer: Result<ClauseNumbers, Refusal>,
     written: &mut u64,
     variables: &mut u64,
     clauses: &mut u64,
@@ -79,38 +82,27 @@ pub fn store_clauses(
         (written.new ∷ variables.new ∷ clauses.new ∷ []) }
 {
     match answer {
-        ClausesAnswer::Refused(refusal) => refusal,
-        ClausesAnswer::Written(l, v, c) => {
-            *written = l as u64;
-            *variables = v as u64;
-            *clauses = c as u64;
+        Ok(numbers) => {
+            *written = numbers.words as u64;
+            *variables = numbers.variables as u64;
+            *clauses = numbers.clauses as u64;
             0
         }
-    }
-}
-
-// A verdict as a number.
-fn verdict_code(v: Verdict) -> u64
-    ensures { result ≡ code (from_verdict v) }
-{
-    match v {
-        Verdict::None => 0,
-        Verdict::Clear => 1,
-        Verdict::Split => 2,
+        Err(no_clauses) => no_clauses.into(),
     }
 }
 
 // Of counting: the number of stable models, and the verdict.
-pub fn store_count(answer: CountAnswer, count: &mut u64, verdict: &mut u64) -> u32
+pub fn store_count(answer: Result<Counted, Refusal>, count: &mut u64, verdict: &mut u64) -> u32
     ensures { Stores (from_count answer) result
         (count.old ∷ verdict.old ∷ []) (count.new ∷ verdict.new ∷ []) }
 {
     match answer {
-        CountAnswer::Refused(refusal) => refusal,
-        CountAnswer::Counted(c, v) => {
-            *count = c;
-            *verdict = verdict_code(v);
+        Ok(counted) => {
+            *count = counted.states;
+            *verdict = counted.verdict.into();
             0
         }
+        Err(not_counted) => not_counted.into(),
     }
 }

@@ -8,20 +8,20 @@ use borrow.Author.Tests.{eq-eqb}
 use lib.Dec.{eqb}
 use lib.ListN.{length, length-append, length-replicate, take, drop}
 use lib.Seq.{take-append_seam}
-use mir.Syntax.{w32}
-use mir.Val.{Fits}
+use Rattle.std.proofs.Common.{Result, Ok, Err}
+use Rattle.refusals.specs.declared.Refusal.{Refusal}
+use Rattle.refusals.specs.Numbers.{number}
+use Rattle.refusals.proofs.Asking.{number_small}
 use Rattle.sheet.specs.Questions.{first_refusal}
 use Rattle.writer.specs.inner.Wrote.{Wrote}
 use Rattle.writer.proofs.Writing.{wrote_front}
 use Rattle.text.specs.Text.{refused_text}
 use Rattle.text.proofs.Lines.{refused_short}
-use Rattle.operations.specs.Outcome.{Outcome, answered, from_write}
+use Rattle.operations.specs.Outcome.{Outcome, refused, answered, from_write}
 use Rattle.operations.specs.Outputs.{lparse_output}
 use Rattle.operations.specs.Questions.{question10}
 use Rattle.operations.specs.Calls.{sheet, naturals, over, describe, input_questions, questions, Promised}
 use Rattle.operations.specs.Calls as call
-use Rattle.operations.specs.declared.WriteAnswer.{WriteAnswer}
-use Rattle.operations.specs.declared.WriteAnswer.TheVariants as write
 use Rattle.operations.specs.inner.Refusals.{call_refusal}
 use Rattle.operations.proofs.Promises.{promised_number, promised_passed, promised_values, promised_written}
 use Rattle.office.specs.Office.{office}
@@ -31,7 +31,7 @@ pub lent_size : length lent_bytes ≡ 65536
 unfolding lent_bytes
 lent_size = length-replicate {A = ℕ} 65536 0
 
-module _ (input old new : List ℕ) (r : WriteAnswer) (E : Promised office (call.lparse input old) (from_write r) (naturals new)) (size : length old ≡ 65536) where
+module _ (input old new : List ℕ) (r : Result ℕ Refusal) (E : Promised office (call.lparse input old) (from_write r) (naturals new)) (size : length old ≡ 65536) where
   abbrev asked : ℕ
   asked = call_refusal office (call.lparse input old)
 
@@ -45,17 +45,18 @@ module _ (input old new : List ℕ) (r : WriteAnswer) (E : Promised office (call
   promised : {o : Outcome} → from_write r ≡ o → Promised office (call.lparse input old) o (naturals new)
   promised e = subst (λ o. Promised office (call.lparse input old) o (naturals new)) e E
 
-  pub answer_refused : (n : ℕ) → r ≡ write.Refused n → Fits w32 n → (after : List ℕ) (next : ℕ) → length new ≡ length old → Wrote new 0 (refused_text n) after next
+  pub answer_refused : (x : Refusal) → r ≡ Err x → (n : ℕ) → n ≡ number x → (after : List ℕ) (next : ℕ) → length new ≡ length old → Wrote new 0 (refused_text n) after next
       → Prints input after next
   unfolding printed
-  answer_refused n e f after next same W =
-      let h = promised_number office (call.lparse input old) (naturals new) n (promised (ap from_write e)) in
+  answer_refused x e n is after next same W =
+      let small = number_small x in
+      let h = promised_number office (call.lparse input old) (naturals new) n (promised (ap from_write e ∙ ap refused (sym is))) in
       let no : eqb (refusal input) 0 ≡ false = ap (λ k. eqb k 0) (sym asked_is) ∙ h.1 in
-      let l = refused_short n (record { fits = let g = f.fits in omega arith }) in
+      let l = refused_short n (record { fits = omega arith }) in
       let front = wrote_front new (refused_text n) after next W (omega arith) in
       record { inside = front.0; text = front.1 ∙ (ap refused_text (h.0 ∙ asked_is) ∙ sym (rw no refl)) }
 
-  pub answer_written : (k : ℕ) → r ≡ write.Length k → Prints input new k
+  pub answer_written : (k : ℕ) → r ≡ Ok k → Prints input new k
   unfolding printed describe
   answer_written k e =
       let passed = promised_passed office (call.lparse input old) (naturals new) (k ∷ []) (promised (ap from_write e)) in

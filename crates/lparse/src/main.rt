@@ -5,7 +5,7 @@ ghost use Rattle.std.specs.Prelude.{◌≡◌, length};
 ghost use Rattle.lparse.specs.Printed.{Prints};
 
 use input::read_full;
-use operations::WriteAnswer;
+use office::service;
 use std::io;
 use std::io::Write;
 use text::put_refused;
@@ -15,10 +15,9 @@ fn answer(input: &[u8], text: &mut [u8]) -> usize
     requires { length text.old ≡ 65536 }
     ensures { Prints input.now text.new result }
 {
-    let answer = office::lparse(input, text);
-    match answer {
-        WriteAnswer::Refused(refusal) => put_refused(text, refusal as usize),
-        WriteAnswer::Length(bytes) => bytes,
+    match service().lparse(input, text) {
+        Ok(bytes) => bytes,
+        Err(refusal) => put_refused(text, u32::from(refusal) as usize),
     }
 }
 

@@ -30,14 +30,14 @@ module _ (kind head : ℕ) where
   unfolding head_text
   constraint_head e = rw (eq-eqb kind 1 e) refl
 
-  module _ (other : kind ≡ 1 → ⊥) (h : ℕ) (same : h ≡ head) where
+  module _ (h : ℕ) (same : h ≡ head) where
     pub choice_head : kind ≡ 2 → head_text kind head ≡ ascii "3 1" ++ field_text (lparse_atom h)
     unfolding head_text
-    choice_head e = rw (ne_eqb kind 1 other, eq-eqb kind 2 e, same) refl
+    choice_head e = rw (ne_eqb kind 1 (λ f. omega arith), eq-eqb kind 2 e, same) refl
 
-    pub rule_head : (kind ≡ 2 → ⊥) → head_text kind head ≡ ascii "1" ++ field_text (lparse_atom h)
+    pub rule_head : (kind ≡ 1 → ⊥) → (kind ≡ 2 → ⊥) → head_text kind head ≡ ascii "1" ++ field_text (lparse_atom h)
     unfolding head_text
-    rule_head ne = rw (ne_eqb kind 1 other, ne_eqb kind 2 ne, same) refl
+    rule_head other ne = rw (ne_eqb kind 1 other, ne_eqb kind 2 ne, same) refl
 
   -- They have room, and are written.
   module _ (old : List ℕ) (at : ℕ) where
@@ -45,30 +45,29 @@ module _ (kind head : ℕ) where
       pub constraint_fits : kind ≡ 1 → at + length (ascii "1 1") ≤ length old
       constraint_fits e = rw (constraint_head e) at room
 
-      module _ (other : kind ≡ 1 → ⊥) where
-        pub choice_fits : kind ≡ 2 → at + length (ascii "3 1") ≤ length old
-        choice_fits e = room_front old (ascii "3 1") (field_text (lparse_atom head)) at (rw (choice_head other head refl e) at room)
+      pub choice_fits : kind ≡ 2 → at + length (ascii "3 1") ≤ length old
+      choice_fits e = room_front old (ascii "3 1") (field_text (lparse_atom head)) at (rw (choice_head head refl e) at room)
 
-        pub rule_fits : (kind ≡ 2 → ⊥) → at + length (ascii "1") ≤ length old
-        rule_fits ne = room_front old (ascii "1") (field_text (lparse_atom head)) at (rw (rule_head other head refl ne) at room)
+      pub rule_fits : (kind ≡ 1 → ⊥) → (kind ≡ 2 → ⊥) → at + length (ascii "1") ≤ length old
+      rule_fits other ne = room_front old (ascii "1") (field_text (lparse_atom head)) at (rw (rule_head head refl other ne) at room)
 
-        module _ (mid : List ℕ) (a h : ℕ) (same : h ≡ head) where
-          pub choice_behind : Wrote old at (ascii "3 1") mid a → kind ≡ 2 → a + length (field_text (lparse_atom h)) ≤ length mid
-          choice_behind W e = room_behind old mid (ascii "3 1") (field_text (lparse_atom h)) at a W (rw (choice_head other h same e) at room)
+      module _ (mid : List ℕ) (a h : ℕ) (same : h ≡ head) where
+        pub choice_behind : Wrote old at (ascii "3 1") mid a → kind ≡ 2 → a + length (field_text (lparse_atom h)) ≤ length mid
+        choice_behind W e = room_behind old mid (ascii "3 1") (field_text (lparse_atom h)) at a W (rw (choice_head h same e) at room)
 
-          pub rule_behind : Wrote old at (ascii "1") mid a → (kind ≡ 2 → ⊥) → a + length (field_text (lparse_atom h)) ≤ length mid
-          rule_behind W ne = room_behind old mid (ascii "1") (field_text (lparse_atom h)) at a W (rw (rule_head other h same ne) at room)
+        pub rule_behind : Wrote old at (ascii "1") mid a → (kind ≡ 1 → ⊥) → (kind ≡ 2 → ⊥) → a + length (field_text (lparse_atom h)) ≤ length mid
+        rule_behind W other ne = room_behind old mid (ascii "1") (field_text (lparse_atom h)) at a W (rw (rule_head h same other ne) at room)
 
     module _ (new : List ℕ) (next : ℕ) where
       pub wrote_constraint : kind ≡ 1 → Wrote old at (ascii "1 1") new next → Wrote old at (head_text kind head) new next
       wrote_constraint e W = rw (constraint_head e) W
 
-      module _ (mid : List ℕ) (a : ℕ) (other : kind ≡ 1 → ⊥) (h : ℕ) (same : h ≡ head) where
+      module _ (mid : List ℕ) (a h : ℕ) (same : h ≡ head) where
         pub wrote_choice : kind ≡ 2 → Wrote old at (ascii "3 1") mid a → Wrote mid a (field_text (lparse_atom h)) new next → Wrote old at (head_text kind head) new next
-        wrote_choice e U W = rw (choice_head other h same e) (wrote_append old mid new (ascii "3 1") (field_text (lparse_atom h)) at a next U W)
+        wrote_choice e U W = rw (choice_head h same e) (wrote_append old mid new (ascii "3 1") (field_text (lparse_atom h)) at a next U W)
 
-        pub wrote_rule : (kind ≡ 2 → ⊥) → Wrote old at (ascii "1") mid a → Wrote mid a (field_text (lparse_atom h)) new next → Wrote old at (head_text kind head) new next
-        wrote_rule ne U W = rw (rule_head other h same ne) (wrote_append old mid new (ascii "1") (field_text (lparse_atom h)) at a next U W)
+        pub wrote_rule : (kind ≡ 1 → ⊥) → (kind ≡ 2 → ⊥) → Wrote old at (ascii "1") mid a → Wrote mid a (field_text (lparse_atom h)) new next → Wrote old at (head_text kind head) new next
+        wrote_rule other ne U W = rw (rule_head h same other ne) (wrote_append old mid new (ascii "1") (field_text (lparse_atom h)) at a next U W)
 
 -- The size of a set.
 pub size_low : (x k : ℕ) → Size x k → k ≤ 64

@@ -6,7 +6,7 @@ ghost use Rattle.writer.specs.inner.Wrote.{Wrote};
 ghost use Rattle.lparse_format.specs.Text.{field_text};
 ghost use Rattle.lparse_lines.specs.inner.Lines.{head_text, atoms_text, literals_text, body_text, record_text};
 
-use bits::{lowest, rest, size, wide};
+use bits::{lowest, rest, size};
 use tables::SheetRecord;
 use text::{put_small, put_text};
 use writer::put;
@@ -25,15 +25,17 @@ fn put_head(out: &mut [u8], at: usize, kind: u8, head: u8) -> usize
     requires { at + length (head_text kind head) ≤ length out.old }
     ensures { Wrote out.old at (head_text kind head) out.new result }
 {
-    if kind == 1 {
-        return put_text(out, at, b"1 1");
+    match kind {
+        1 => put_text(out, at, b"1 1"),
+        2 => {
+            let a = put_text(out, at, b"3 1");
+            put_field(out, a, usize::from(head) + 2)
+        }
+        _ => {
+            let a = put_text(out, at, b"1");
+            put_field(out, a, usize::from(head) + 2)
+        }
     }
-    if kind == 2 {
-        let a = put_text(out, at, b"3 1");
-        return put_field(out, a, wide(head) + 2);
-    }
-    let a = put_text(out, at, b"1");
-    put_field(out, a, wide(head) + 2)
 }
 
 // The atoms of a set, rising.

@@ -8,12 +8,12 @@ ghost use Rattle.operations.specs.Requirements.{Supported};
 
 use lparse_output::put_lparse;
 use lparse_sizes::lparse_length;
-use operations::WriteAnswer;
+use refusals::Refusal;
 use sheet::Limits;
 use sheet_check::check_records;
 
 // Writing lparse text.
-pub fn lparse(limits: Limits, s: &[u8], out: &mut [u8]) -> WriteAnswer
+pub fn lparse(limits: Limits, s: &[u8], out: &mut [u8]) -> Result<usize, Refusal>
     requires { Supported limits }
     ensures { Promised limits (call.lparse s.now out.old) (from_write result) (naturals out.new) }
 {
@@ -30,16 +30,11 @@ pub fn lparse(limits: Limits, s: &[u8], out: &mut [u8]) -> WriteAnswer
         &mut names,
         &mut sets,
         &mut none,
-    );
-    let refusal = a.refusal;
-    if refusal != 0 {
-        return WriteAnswer::Refused(refusal);
-    }
+    )?;
     let n = a.written;
     let m = a.records;
     if out.len() < lparse_length(n, m, &records) {
-        return WriteAnswer::Refused(10);
+        return Err(Refusal::Room);
     }
-    let length = put_lparse(out, n, m, &records);
-    WriteAnswer::Length(length)
+    Ok(put_lparse(out, n, m, &records))
 }

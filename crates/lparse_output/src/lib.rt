@@ -16,10 +16,8 @@ fn put_records(out: &mut [u8], m: usize, records: &Table) -> usize
     ensures { Wrote out.old 0 (records_text records.now m) out.new result }
 {
     let mut next = 0;
-    let mut j = 0;
-    while j < m {
+    for j in 0..m {
         next = put_record(out, next, record_at(records, j));
-        j += 1;
     }
     next
 }
@@ -41,10 +39,8 @@ fn put_symbols(out: &mut [u8], at: usize, n: usize) -> usize
     ensures { Wrote out.old at (symbols_text n) out.new result }
 {
     let mut next = at;
-    let mut a = 0;
-    while a < n {
+    for a in 0..n {
         next = put_symbol(out, next, a);
-        a += 1;
     }
     next
 }

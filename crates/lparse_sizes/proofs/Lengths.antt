@@ -30,16 +30,16 @@ module _ (kind head : ℕ) where
   pub constraint_length : kind ≡ 1 → LineLength (head_text kind head) 3
   constraint_length e = let f = ap length (constraint_head kind head e) in record { is = omega arith; small = omega arith }
 
-  module _ (other : kind ≡ 1 → ⊥) (h r : ℕ) (same : h ≡ head) (D : SmallLength (h + 2) r) where
+  module _ (h r : ℕ) (same : h ≡ head) (D : SmallLength (h + 2) r) where
     pub choice_length : kind ≡ 2 → LineLength (head_text kind head) (4 + r)
     choice_length e =
-        let f = ap length (choice_head kind head other h same e) in
+        let f = ap length (choice_head kind head h same e) in
         let s = field_size (lparse_atom h) in
         record { is = omega arith; small = omega arith }
 
-    pub rule_length : (kind ≡ 2 → ⊥) → LineLength (head_text kind head) (2 + r)
-    rule_length ne =
-        let f = ap length (rule_head kind head other h same ne) in
+    pub rule_length : (kind ≡ 1 → ⊥) → (kind ≡ 2 → ⊥) → LineLength (head_text kind head) (2 + r)
+    rule_length other ne =
+        let f = ap length (rule_head kind head h same other ne) in
         let s = field_size (lparse_atom h) in
         record { is = omega arith; small = omega arith }
 

@@ -6,7 +6,7 @@ ghost use Rattle.bits.specs.inner.Sets.{Size};
 ghost use Rattle.lparse_lines.specs.inner.Lines.{head_text, body_text, records_text, symbol_line, symbols_text, whole_text};
 ghost use Rattle.lparse_sizes.specs.inner.Lengths.{AtomsLength, LineLength, TextLength};
 
-use bits::{intersection, size, wide};
+use bits::{intersection, size};
 use tables::{Table, record_at};
 use text::small_length;
 
@@ -14,13 +14,11 @@ use text::small_length;
 fn head_length(kind: u8, head: u8) -> usize
     ensures { LineLength (head_text kind head) result }
 {
-    if kind == 1 {
-        return 3;
+    match kind {
+        1 => 3,
+        2 => 4 + small_length(usize::from(head) + 2),
+        _ => 2 + small_length(usize::from(head) + 2),
     }
-    if kind == 2 {
-        return 4 + small_length(wide(head) + 2);
-    }
-    2 + small_length(wide(head) + 2)
 }
 
 // How long the fields of a set's k atoms are: 3 bytes each, but 2 where the number has one digit.
@@ -47,11 +45,9 @@ fn records_length(m: usize, records: &Table) -> usize
     ensures { TextLength (records_text records.now m) result }
 {
     let mut t = 0;
-    let mut j = 0;
-    while j < m {
+    for j in 0..m {
         let r = record_at(records, j);
         t += head_length(r.kind, r.head) + body_length(r.pos, r.neg);
-        j += 1;
     }
     t
 }
@@ -70,10 +66,8 @@ fn symbols_length(n: usize) -> usize
     ensures { TextLength (symbols_text n) result }
 {
     let mut t = 0;
-    let mut a = 0;
-    while a < n {
+    for a in 0..n {
         t += symbol_length(a);
-        a += 1;
     }
     t
 }

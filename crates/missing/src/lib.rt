@@ -10,8 +10,8 @@ ghost use Rattle.positions.specs.inner.Positions.{Position};
 ghost use Rattle.missing.specs.inner.Extending.{Fits, SomeLacks, Next, ChainPut};
 ghost use Rattle.missing.specs.inner.Missing.{SomeMissing, MissingPut};
 
-use bits::{intersection, list_set, lowest, wide, without};
-use chain_rows::{followers, place_of, power};
+use bits::{intersection, list_set, lowest, place_of, without};
+use chain_rows::{followers, power};
 use chain_table::fill;
 use missing_places::lacking;
 use positions::behind;
@@ -32,22 +32,21 @@ pub struct Extension {
 fn next_extension(
     table: &mut [u64],
     rows: &[u64; 64],
-    atoms: &[u8; 16],
-    k: usize,
+    atoms: &[u8],
     q: &[u8],
     extension: Extension,
 ) -> Extension
-    requires { Roomy k (length table.old) × Low atoms.now k × RisesTo atoms.now k × (below 64 (drop 3 q.now) ≡ true) × Fits k q.now extension × (1 < extension.left)
-        × SomeLacks rows.now atoms.now k q.now extension }
-    ensures { Next rows.now atoms.now k q.now extension result }
+    requires { Roomy (length atoms.now) (length table.old) × Low atoms.now (length atoms.now) × RisesTo atoms.now (length atoms.now) × (below 64 (drop 3 q.now) ≡ true)
+        × Fits (length atoms.now) q.now extension × (1 < extension.left) × SomeLacks rows.now atoms.now (length atoms.now) q.now extension }
+    ensures { Next rows.now atoms.now (length atoms.now) q.now extension result }
 {
     let last = extension.place;
-    let x = wide(atoms[last]);
+    let x = usize::from(atoms[last]);
     let from = behind(q, extension.from, x);
     let unused = without(extension.unused, last);
     let left = extension.left - 1;
-    fill(table, rows, atoms, k, q, from);
-    let after = followers(rows, atoms, k, x);
+    fill(table, rows, atoms, q, from);
+    let after = followers(rows, atoms, x);
     let place = lowest(intersection(after, lacking(table, unused, left)));
     Extension {
         from,
@@ -57,36 +56,26 @@ fn next_extension(
     }
 }
 
-// Where the next atom of a chain goes, and how the chain goes on from it.
-#[derive(Clone, Copy)]
-pub struct ChainPoint {
-    pub at: usize,
-    pub extension: Extension,
-}
-
 // Writes the first missing chain from the extension's place on, and answers the index behind it.
 fn put_chain(
     out: &mut [u8],
+    at: usize,
     table: &mut [u64],
     rows: &[u64; 64],
-    atoms: &[u8; 16],
-    k: usize,
+    atoms: &[u8],
     q: &[u8],
-    point: ChainPoint,
+    extension: Extension,
 ) -> usize
-    requires { (point.at + point.extension.left ≤ length out.old) × Roomy k (length table.old) × Low atoms.now k × RisesTo atoms.now k × (below 64 (drop 3 q.now) ≡ true)
-        × Fits k q.now point.extension × SomeLacks rows.now atoms.now k q.now point.extension }
-    ensures { ChainPut rows.now atoms.now k q.now point.extension out.old point.at out.new result }
+    requires { (at + extension.left ≤ length out.old) × Roomy (length atoms.now) (length table.old) × Low atoms.now (length atoms.now) × RisesTo atoms.now (length atoms.now)
+        × (below 64 (drop 3 q.now) ≡ true) × Fits (length atoms.now) q.now extension × SomeLacks rows.now atoms.now (length atoms.now) q.now extension }
+    ensures { ChainPut rows.now atoms.now (length atoms.now) q.now extension out.old at out.new result }
 {
-    let extension = point.extension;
-    let place = extension.place;
-    let at = put(out, point.at, atoms[place]);
+    let at = put(out, at, atoms[extension.place]);
     if extension.left <= 1 {
         return at;
     }
-    let extension = next_extension(table, rows, atoms, k, q, extension);
-    let onward = ChainPoint { at, extension };
-    put_chain(out, table, rows, atoms, k, q, onward)
+    let extension = next_extension(table, rows, atoms, q, extension);
+    put_chain(out, at, table, rows, atoms, q, extension)
 }
 
 // Writes the shortest missing chain, which starts there, and answers its number of atoms.
@@ -101,14 +90,12 @@ pub fn put_missing(
     ensures { MissingPut rows.now (drop 3 q.now) start out.old out.new result }
 {
     let list = list_set(start.set);
-    let atoms = list.atoms;
-    let k = list.t;
+    let atoms = list.as_slice();
     let extension = Extension {
         from: 3,
-        unused: (power(k) - 1) as u64,
-        place: place_of(&atoms, k, start.atom),
+        unused: (power(atoms.len()) - 1) as u64,
+        place: place_of(atoms, start.atom).unwrap(),
         left: start.length,
     };
-    let first = ChainPoint { at: 0, extension };
-    put_chain(out, table, rows, &atoms, k, q, first)
+    put_chain(out, 0, table, rows, atoms, q, extension)
 }

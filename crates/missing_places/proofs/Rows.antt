@@ -66,12 +66,16 @@ module _ (table : List ℕ) (U m : ℕ) where
             (λ q. let ne = eqb-false T S q in or_left (has one p) (B.back p T (omega arith) K));
       }
 
-  pub below_end : (S r : ℕ) → Below table U m S r → S ≤ U + 1 → U < S → Lacking table U m r
-  below_end S r B l h =
+  below_end : (S r : ℕ) → Below table U m S r → S ≡ U + 1 → Lacking table U m r
+  below_end S r B e =
       record {
         out = λ p t. let u = B.out p t in (u.0, let k = u.1 in omega arith, u.2);
         back = λ p T k K. B.back p T (omega arith) K;
       }
+
+  -- The set U is the last.
+  pub below_last : (S old one new : ℕ) → Below table U m S old → LackingIn table U m S one → Either old one new → S ≡ U → Lacking table U m new
+  below_last S old one new B L E e = below_end (S + 1) new (below_turn S old one new B L E) (omega arith)
 
 -- No set of fewer than m places lacks one.
 pub record NoneBelow (table : List ℕ) (U m : ℕ) : Type 0 where

@@ -22,30 +22,28 @@ fn lacking_in(table: &[u64], unused: u64, m: usize, set: usize) -> u64
 }
 
 // The places from which some chain of at most m atoms is missing, its places all of `unused`: those that some set's row lacks.
+#[tactic(auto, using(crate::proofs::Rows::below_start, crate::proofs::Rows::below_turn, crate::proofs::Rows::below_last))]
 pub fn lacking(table: &[u64], unused: u64, m: usize) -> u64
     requires { unused < length table.now }
     ensures { Lacking table.now unused m result }
 {
     let mut places: u64 = 0;
-    let mut set = 0;
-    while set <= unused as usize {
+    for set in 0..=unused as usize {
         places = union(places, lacking_in(table, unused, m, set));
-        set += 1;
     }
     places
 }
 
 // How many atoms the shortest missing chain has, of a component of k atoms that lacks one.
+#[tactic(auto, using(crate::proofs::Rows::none_start, crate::proofs::Rows::none_turn, crate::proofs::Rows::none_end, crate::proofs::Rows::none_found))]
 pub fn shortest(table: &[u64], full: u64, k: usize) -> usize
     requires { full < length table.now }
     ensures { Shortest table.now full k result }
 {
-    let mut m = 1;
-    while m < k {
+    for m in 1..k {
         if lacking(table, full, m) != 0 {
             return m;
         }
-        m += 1;
     }
     k
 }

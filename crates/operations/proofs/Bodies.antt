@@ -1,66 +1,68 @@
 -- Laws of a body's place: what its number of positive atoms and its slice are.
-use mathlib.Core.Bool.{cond}
+use mathlib.Core.Bool.{false}
 use mathlib.Core.List.{List, [], ◌∷◌}
-use mathlib.Core.Path.{◌≡◌, refl, sym, ◌∙◌, ap, subst}
-use Prim.Native.Nat.{ℕ, ◌-◌, ◌≤◌}
+use mathlib.Core.Path.{◌≡◌, refl}
+use Prim.Native.Nat.{ℕ}
 use native.Mathlib.Omega.{arith}
-use borrow.Author.Tests.{eq-eqb, eqb-true, ne_eqb}
+use borrow.Author.Tests.{eq-eqb}
 use lib.Dec.{eqb}
-use Rattle.lists.proofs.Bools.{by_bool}
+use Rattle.std.proofs.Common.{Ok, Err}
+use Rattle.refusals.specs.declared.Refusal.{Refusal}
+use Rattle.refusals.specs.Numbers.{number}
+use Rattle.refusals.proofs.Asking.{number_positive}
 use Rattle.sheet.specs.Format.{part}
 use Rattle.sheet.specs.declared.Limits.{Limits}
 use Rattle.operations.specs.Outcome.{refused, answered}
-use Rattle.operations.specs.Outputs.{body_start, slice}
+use Rattle.operations.specs.Outputs.{body_start, body_end, body_positives, slice}
 use Rattle.operations.specs.Calls.{nothing, describe, Promised}
 use Rattle.operations.specs.Calls as call
-use Rattle.operations.specs.Bodies.{body_refusal, shifted, SlicePromise, body_at, nowhere, body_place, FindPromise}
+use Rattle.operations.specs.Bodies.{body_refusal, shifted, SlicePromise, body_place, FindPromise}
 use Rattle.operations.specs.declared.BodyPlace.{BodyPlace}
-use Rattle.operations.proofs.Promises.{promised_refused, promised_answered}
+use Rattle.operations.proofs.Promises.{outcome_answered, outcome_refused, promised_refused, promised_answered, refused_is, answered_is}
 
 module _ (L : Limits) (i : ℕ) (s : List ℕ) where
-  pub place_shown : body_refusal L i s ≡ 0 → body_at i s ≡ body_place L i s
+  -- Where a body is found.
+  pub find_place : (p : BodyPlace) → body_refusal L i s ≡ 0 → p.start ≡ body_start i s → p.end ≡ body_end i s → p.positives ≡ body_positives i s
+      → answered (p.start ∷ p.end ∷ p.positives ∷ []) ≡ body_place L i s
   unfolding body_place
-  place_shown z = sym (rw (eq-eqb (body_refusal L i s) 0 z) refl)
+  find_place p z a e k = rw (a, e, k) (outcome_answered (body_refusal L i s) _ z)
 
-  module _ (b : BodyPlace) (F : FindPromise L i s b) where
-    pub found_says : b.refusal ≡ body_refusal L i s
+  -- And where it is refused.
+  pub find_nowhere : (e : Refusal) → number e ≡ body_refusal L i s → FindPromise L i s (Err e)
+  unfolding body_place
+  find_nowhere e f = let p = number_positive e in record { is = outcome_refused (body_refusal L i s) (number e) _ f (λ z. omega arith); order = tt; inside = tt }
+
+  module _ (e : Refusal) (F : FindPromise L i s (Err e)) where
+    found_says : (number e ≡ body_refusal L i s) × (eqb (body_refusal L i s) 0 ≡ false)
     unfolding body_place
-    found_says =
-        ap (λ (b : BodyPlace). b.refusal) F.is
-        ∙ by_bool (eqb (body_refusal L i s) 0) (λ t. rw t (sym (eqb-true (body_refusal L i s) 0 t))) (λ f. rw f refl)
+    found_says = refused_is (body_refusal L i s) _ (number e) F.is
 
-    pub found_place : b.refusal ≡ 0 → b ≡ body_at i s
-    found_place z = F.is ∙ sym (place_shown (sym found_says ∙ z))
-
-    pub body_none : (b.refusal ≡ 0 → ⊥) → Promised L (call.body i s) (refused b.refusal) nothing
+    pub body_none : Promised L (call.body i s) (refused (number e)) nothing
     unfolding describe
-    body_none ne = promised_refused L (call.body i s) b.refusal found_says ne
+    body_none = promised_refused L (call.body i s) e found_says.0
 
-    pub body_count : b.refusal ≡ 0 → Promised L (call.body i s) (answered (b.positives ∷ [])) nothing
+    -- The slice is empty and lies at the beginning.
+    pub slice_empty : (base : ℕ × ℕ) → SlicePromise L i s base [] (shifted 0 base)
+    slice_empty base = record { contents = rw found_says.1 refl; lies = rw found_says.1 refl }
+
+  module _ (p : BodyPlace) (F : FindPromise L i s (Ok p)) where
+    found_values : (body_refusal L i s ≡ 0) × (p.start ∷ p.end ∷ p.positives ∷ [] ≡ body_start i s ∷ body_end i s ∷ body_positives i s ∷ [])
+    unfolding body_place
+    found_values = answered_is (body_refusal L i s) _ _ F.is
+
+    pub body_count : Promised L (call.body i s) (answered (p.positives ∷ [])) nothing
     unfolding describe
-    body_count z =
-        subst (λ k. Promised L (call.body i s) (answered (k ∷ [])) nothing) (sym (ap (λ (b : BodyPlace). b.positives) (found_place z)))
-        (promised_answered L (call.body i s) (sym found_says ∙ z))
+    body_count =
+        let vs = found_values.1 in
+        let e : p.positives ≡ body_positives i s = cc in
+        rw e (promised_answered L (call.body i s) found_values.0)
 
-    -- The slice from the start to the end that are found, which on a refusal are 0.
-    pub slice_shown : (base : ℕ × ℕ) → SlicePromise L i s base (part b.start b.end s) (shifted b.start base)
-    unfolding slice body_place
+    -- The slice from the start to the end that are found.
+    pub slice_shown : (base : ℕ × ℕ) → SlicePromise L i s base (part p.start p.end s) (shifted p.start base)
+    unfolding slice
     slice_shown base =
-        record {
-          contents = ap (λ (b : BodyPlace). part b.start b.end s) F.is ∙ by_bool (eqb (body_refusal L i s) 0) (λ t. rw t refl) (λ f. rw f refl);
-          lies = ap (λ (b : BodyPlace). shifted b.start base) F.is ∙ by_bool (eqb (body_refusal L i s) 0) (λ t. rw t refl) (λ f. rw f refl);
-        }
-
-    -- What is empty has these contents wherever it lies; only a refusal's slice lies at the beginning.
-    pub contents_empty : b.end ≤ b.start → [] ≡ cond (eqb (body_refusal L i s) 0) (slice i s) []
-    contents_empty l = let z : b.end - b.start ≡ 0 = omega arith in (rw z at slice_shown (0, 0)).contents
-
-    refused_nowhere : (b.refusal ≡ 0 → ⊥) → b ≡ nowhere (body_refusal L i s)
-    unfolding body_place
-    refused_nowhere ne = F.is ∙ rw (ne_eqb (body_refusal L i s) 0 (λ z. ne (found_says ∙ z))) refl
-
-    pub refused_empty : (b.refusal ≡ 0 → ⊥) → b.end ≤ b.start
-    refused_empty ne = let e = ap (λ (b : BodyPlace). b.end) (refused_nowhere ne) in omega arith
-
-    pub refused_lies : (base : ℕ × ℕ) → (b.refusal ≡ 0 → ⊥) → shifted 0 base ≡ shifted (cond (eqb (body_refusal L i s) 0) (body_start i s) 0) base
-    refused_lies base ne = (rw (ap (λ (b : BodyPlace). b.start) (refused_nowhere ne)) at slice_shown base).lies
+        let vs = found_values.1 in
+        let a : p.start ≡ body_start i s = cc in
+        let e : p.end ≡ body_end i s = cc in
+        let z = eq-eqb (body_refusal L i s) 0 found_values.0 in
+        record { contents = rw (z, a, e) refl; lies = rw (z, a) refl }

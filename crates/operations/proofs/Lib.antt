@@ -1,6 +1,6 @@
 pub mod Questions
 pub mod Promises
 pub mod Writing
-pub mod Requirements
 pub mod Default
 pub mod Bodies
+pub mod Verdicts

@@ -7,6 +7,9 @@ use native.Mathlib.Omega.{arith}
 use borrow.Author.Tests.{eq-eqb, eqb-true, ne_eqb}
 use lib.Dec.{eqb}
 use Rattle.lists.proofs.Bools.{by_bool}
+use Rattle.refusals.specs.declared.Refusal.{Refusal}
+use Rattle.refusals.specs.Numbers.{number}
+use Rattle.refusals.proofs.Asking.{number_positive}
 use Rattle.sheet.specs.Questions.{first_refusal}
 use Rattle.sheet.specs.declared.Limits.{Limits}
 use Rattle.sheet.proofs.Questions.{then_zero}
@@ -23,13 +26,32 @@ pub outcome_answered : (refusal : ℕ) (values : List ℕ) → refusal ≡ 0 →
 unfolding outcome
 outcome_answered refusal values z = sym (rw (eq-eqb refusal 0 z) refl)
 
+-- What an outcome that is known says of its questions and values.
+module _ (refusal : ℕ) (values : List ℕ) where
+  pub refused_is : (k : ℕ) → refused k ≡ outcome refusal values → (k ≡ refusal) × (eqb refusal 0 ≡ false)
+  unfolding outcome
+  refused_is k P =
+      by_bool (eqb refusal 0)
+      (λ t. let bad : refused k ≡ answered values = rw t at P in let z : ◌≡◌ {A = ℕ} 0 1 = cc bad in absurd (omega arith))
+      (λ f. let same : refused k ≡ refused refusal = rw f at P in (cc same, f))
+
+  pub answered_is : (vs : List ℕ) → answered vs ≡ outcome refusal values → (refusal ≡ 0) × (vs ≡ values)
+  unfolding outcome
+  answered_is vs P =
+      by_bool (eqb refusal 0)
+      (λ t. let same : answered vs ≡ answered values = rw t at P in (eqb-true refusal 0 t, cc same))
+      (λ f. let bad : answered vs ≡ refused refusal = rw f at P in let z : ◌≡◌ {A = ℕ} 0 1 = cc bad in absurd (omega arith))
+
 -- A refusal leaves the buffer as it was, and a success has the output in it.
 module _ (L : Limits) (c : Call) where
-  pub promised_refused : (r : ℕ) → r ≡ call_refusal L c → (r ≡ 0 → ⊥) → Promised L c (refused r) (describe c).lent
+  pub promised_number_refused : (r : ℕ) → r ≡ call_refusal L c → (r ≡ 0 → ⊥) → Promised L c (refused r) (describe c).lent
   unfolding outcome_of left
-  promised_refused r e ne =
+  promised_number_refused r e ne =
       let says = outcome_refused (call_refusal L c) r (describe c).values e ne in
       record { says = says; leaves = ap (λ o. left o (describe c)) says }
+
+  pub promised_refused : (r : Refusal) → number r ≡ call_refusal L c → Promised L c (refused (number r)) (describe c).lent
+  promised_refused r e = promised_number_refused (number r) e (λ z. let p = number_positive r in omega arith)
 
   pub promised_answered : call_refusal L c ≡ 0 → Promised L c (answered (describe c).values) (describe c).written
   unfolding outcome_of left
@@ -44,26 +66,20 @@ module _ (L : Limits) (c : Call) where
 -- What a promise says of the questions, and where it is a success of the values and the buffer.
 module _ (L : Limits) (c : Call) (b : Buffer) where
   pub promised_number : (k : ℕ) → Promised L c (refused k) b → (k ≡ call_refusal L c) × (eqb (call_refusal L c) 0 ≡ false)
-  unfolding outcome_of outcome
-  promised_number k P =
-      by_bool (eqb (call_refusal L c) 0)
-      (λ t. let bad : refused k ≡ answered (describe c).values = rw t at P.says in let z : ◌≡◌ {A = ℕ} 0 1 = cc bad in absurd (omega arith))
-      (λ f. let same : refused k ≡ refused (call_refusal L c) = rw f at P.says in (cc same, f))
+  unfolding outcome_of
+  promised_number k P = refused_is (call_refusal L c) (describe c).values k P.says
 
   module _ (values : List ℕ) (P : Promised L c (answered values) b) where
-    pub promised_passed : call_refusal L c ≡ 0
-    unfolding outcome_of outcome
-    promised_passed =
-        by_bool (eqb (call_refusal L c) 0) (λ t. eqb-true (call_refusal L c) 0 t)
-        (λ f. let bad : answered values ≡ refused (call_refusal L c) = rw f at P.says in let z : ◌≡◌ {A = ℕ} 0 1 = cc bad in absurd (omega arith))
-
-    passed_outcome : answered (describe c).values ≡ outcome_of L c
+    known : (call_refusal L c ≡ 0) × (values ≡ (describe c).values)
     unfolding outcome_of
-    passed_outcome = outcome_answered (call_refusal L c) (describe c).values promised_passed
+    known = answered_is (call_refusal L c) (describe c).values values P.says
+
+    pub promised_passed : call_refusal L c ≡ 0
+    promised_passed = known.0
 
     pub promised_values : answered values ≡ answered (describe c).values
-    promised_values = P.says ∙ sym passed_outcome
+    promised_values = ap answered known.1
 
     pub promised_written : b ≡ (describe c).written
-    unfolding left
-    promised_written = P.leaves ∙ ap (λ o. left o (describe c)) (sym passed_outcome)
+    unfolding left outcome_of
+    promised_written = P.leaves ∙ ap (λ o. left o (describe c)) (sym (outcome_answered (call_refusal L c) (describe c).values known.0))

@@ -6,6 +6,10 @@ use native.Mathlib.Nat.{zero-add}
 use native.Mathlib.Omega.{arith}
 use borrow.Author.Tests.{le-leb, lt-leb}
 use lib.ListN.{length}
+use Rattle.refusals.specs.declared.Refusal.{Refusal}
+use Rattle.refusals.specs.declared.Refusal.TheVariants as refusal
+use Rattle.refusals.specs.Numbers.{number}
+use Rattle.refusals.proofs.Asking.{number_positive}
 use Rattle.sheet.specs.Questions.{ask, ◌then◌, first_refusal}
 use Rattle.sheet.specs.declared.Limits.{Limits}
 use Rattle.sheet.proofs.Questions.{then_zero, then_refused, then_none, then_assoc, first_append}
@@ -33,10 +37,11 @@ module _ {A : Type 0} (L : Limits) (c : Call) (buffer : List A → Buffer) (inpu
       ∙ ap (λ r. first_refusal further then r) (then_none (question10 output (length old))))
       ∙ sym (then_assoc (input_refusal L input) (first_refusal further) (question10 output (length old)))))
 
-  pub room_refused : (r : ℕ) → r ≡ asked → (r ≡ 0 → ⊥) → Promised L c (refused r) (buffer old)
-  room_refused r e ne =
-      subst (Promised L c (refused r)) (ap (λ d. d.lent) is)
-      (promised_refused L c r (e ∙ sym (room_asked ∙ then_refused asked _ (λ z. ne (e ∙ z)))) ne)
+  pub room_refused : (r : Refusal) → number r ≡ asked → Promised L c (refused (number r)) (buffer old)
+  room_refused r e =
+      let p = number_positive r in
+      subst (Promised L c (refused (number r))) (ap (λ d. d.lent) is)
+      (promised_refused L c r (e ∙ sym (room_asked ∙ then_refused asked _ (λ z. omega arith))))
 
   -- No room, and the whole output.
   module _ (passed : asked ≡ 0) where
@@ -44,7 +49,7 @@ module _ {A : Type 0} (L : Limits) (c : Call) (buffer : List A → Buffer) (inpu
     unfolding ask
     room_full l =
         let same : call_refusal L c ≡ 10 = room_asked ∙ (then_zero asked _ passed ∙ rw (lt-leb (length output) (length old) l) refl) in
-        subst (Promised L c (refused 10)) (ap (λ d. d.lent) is) (promised_refused L c 10 (sym same) (λ e. omega arith))
+        subst (Promised L c (refused 10)) (ap (λ d. d.lent) is) (promised_refused L c refusal.Room (sym same))
 
     pub room_done : (new : List A) (next : ℕ) → length output ≤ length old → Wrote old 0 output new next → Promised L c (answered (next ∷ more)) (buffer new)
     unfolding ask

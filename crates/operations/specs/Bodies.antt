@@ -1,7 +1,9 @@
 -- Showing a body by its place: what is promised of the place, and of the slice of the sheet.
-use Rattle.std.specs.Prelude.{cond, List, [], ◌≡◌, ℕ, ◌+◌, ◌≤◌, eqb, length}
+use Rattle.std.specs.Prelude.{cond, List, [], ◌∷◌, ◌≡◌, ℕ, ◌+◌, ◌≤◌, eqb, length, Result, IfOk}
+use Rattle.refusals.specs.declared.Refusal.{Refusal}
 use Rattle.sheet.specs.Questions.{first_refusal}
 use Rattle.sheet.specs.declared.Limits.{Limits}
+use Rattle.operations.specs.Outcome.{Outcome, outcome, from_place}
 use Rattle.operations.specs.Outputs.{body_start, body_end, body_positives, slice}
 use Rattle.operations.specs.Calls.{questions}
 use Rattle.operations.specs.Calls as call
@@ -20,20 +22,12 @@ pub record SlicePromise (L : Limits) (i : ℕ) (s : List ℕ) (base : ℕ × ℕ
   pub contents : r ≡ cond (eqb (body_refusal L i s) 0) (slice i s) []
   pub lies : at ≡ shifted (cond (eqb (body_refusal L i s) 0) (body_start i s) 0) base
 
--- Where the body of record i stands.
-abbrev pub body_at : ℕ → List ℕ → BodyPlace
-body_at i s = record { refusal = 0; start = body_start i s; end = body_end i s; positives = body_positives i s }
-
--- No place: the refusal alone.
-abbrev pub nowhere : ℕ → BodyPlace
-nowhere refusal = record { refusal = refusal; start = 0; end = 0; positives = 0 }
-
--- Finding a body: where it stands, or the refusal.
-unfoldable pub body_place : Limits → ℕ → List ℕ → BodyPlace
-body_place L i s = cond (eqb (body_refusal L i s) 0) (body_at i s) (nowhere (body_refusal L i s))
+-- Finding a body: where it starts and ends and its number of positive atoms, or the refusal.
+unfoldable pub body_place : Limits → ℕ → List ℕ → Outcome
+body_place L i s = outcome (body_refusal L i s) (body_start i s ∷ body_end i s ∷ body_positives i s ∷ [])
 
 -- The same, within the sheet.
-pub record FindPromise (L : Limits) (i : ℕ) (s : List ℕ) (r : BodyPlace) : Type 0 where
-  pub is : r ≡ body_place L i s
-  pub order : r.start ≤ r.end
-  pub inside : r.end ≤ length s
+pub record FindPromise (L : Limits) (i : ℕ) (s : List ℕ) (r : Result BodyPlace Refusal) : Type 0 where
+  pub is : from_place r ≡ body_place L i s
+  pub order : IfOk r (λ p. p.start ≤ p.end)
+  pub inside : IfOk r (λ p. p.end ≤ length s)

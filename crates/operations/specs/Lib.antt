@@ -6,3 +6,4 @@ pub mod Bodies
 pub mod Limits
 pub mod Requirements
 pub mod inner
+pub mod Verdicts

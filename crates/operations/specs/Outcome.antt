@@ -1,20 +1,12 @@
--- The answer of an operation in document 01's terms: the number of the refusal, or the values of a success.
-use Rattle.std.specs.Prelude.{cond, List, [], ◌∷◌, ℕ, eqb}
-use Rattle.asp.specs.Count.{Verdict, none, clear, split}
-use Rattle.operations.specs.declared.ReadAnswer.{ReadAnswer}
-use Rattle.operations.specs.declared.ReadAnswer.TheVariants as read
-use Rattle.operations.specs.declared.BodyAnswer.{BodyAnswer}
-use Rattle.operations.specs.declared.BodyAnswer.TheVariants as body
-use Rattle.operations.specs.declared.WriteAnswer.{WriteAnswer}
-use Rattle.operations.specs.declared.WriteAnswer.TheVariants as write
-use Rattle.operations.specs.declared.TestAnswer.{TestAnswer}
-use Rattle.operations.specs.declared.TestAnswer.TheVariants as test
-use Rattle.operations.specs.declared.ClausesAnswer.{ClausesAnswer}
-use Rattle.operations.specs.declared.ClausesAnswer.TheVariants as clauses
-use Rattle.operations.specs.declared.Verdict as declared
-use Rattle.operations.specs.declared.Verdict.TheVariants as verdict
-use Rattle.operations.specs.declared.CountAnswer.{CountAnswer}
-use Rattle.operations.specs.declared.CountAnswer.TheVariants as counted
+-- The answer of an operation as the paper gives it: the number of the refusal, or the values of a success.
+use Rattle.std.specs.Prelude.{cond, List, [], ◌∷◌, ℕ, eqb, Result, Ok, Err}
+use Rattle.refusals.specs.declared.Refusal.{Refusal}
+use Rattle.refusals.specs.Numbers.{number}
+use Rattle.reader.specs.declared.Header.{Header}
+use Rattle.operations.specs.declared.BodyPlace.{BodyPlace}
+use Rattle.operations.specs.declared.ClauseNumbers.{ClauseNumbers}
+use Rattle.operations.specs.declared.Counted.{Counted}
+use Rattle.operations.specs.Verdicts.{code, from_verdict}
 
 -- A refusal, or what is answered.
 pub data Outcome : Type 0 where
@@ -25,44 +17,35 @@ pub data Outcome : Type 0 where
 unfoldable pub outcome : ℕ → List ℕ → Outcome
 outcome refusal values = cond (eqb refusal 0) (answered values) (refused refusal)
 
--- What an answer of reading stands for.
-abbrev pub from_read : ReadAnswer → Outcome
-from_read (read.Refused refusal) = refused refusal
-from_read (read.Header n m) = answered (n ∷ m ∷ [])
+-- What a result stands for, where a value is answered by these values.
+abbrev pub from_result : {A : Type 0} → (A → List ℕ) → Result A Refusal → Outcome
+from_result values (Ok x) = answered (values x)
+from_result values (Err e) = refused (number e)
+
+-- What a result of reading stands for.
+abbrev pub from_read : Result Header Refusal → Outcome
+from_read = from_result (λ h. h.atoms ∷ h.records ∷ [])
 
 -- Of showing a body.
-abbrev pub from_body : BodyAnswer → Outcome
-from_body (body.Refused refusal) = refused refusal
-from_body (body.Positives p) = answered (p ∷ [])
+abbrev pub from_body : Result ℕ Refusal → Outcome
+from_body = from_result (λ p. p ∷ [])
+
+-- Of finding a body.
+abbrev pub from_place : Result BodyPlace Refusal → Outcome
+from_place = from_result (λ p. p.start ∷ p.end ∷ p.positives ∷ [])
 
 -- Of an operation that writes.
-abbrev pub from_write : WriteAnswer → Outcome
-from_write (write.Refused refusal) = refused refusal
-from_write (write.Length l) = answered (l ∷ [])
+abbrev pub from_write : Result ℕ Refusal → Outcome
+from_write = from_result (λ l. l ∷ [])
 
 -- Of testing a sequence.
-abbrev pub from_test : TestAnswer → Outcome
-from_test (test.Refused refusal) = refused refusal
-from_test test.Passed = answered []
+abbrev pub from_test : Result (Unit {0}) Refusal → Outcome
+from_test = from_result (λ _. [])
 
 -- Of writing clauses.
-abbrev pub from_clauses : ClausesAnswer → Outcome
-from_clauses (clauses.Refused refusal) = refused refusal
-from_clauses (clauses.Written l v c) = answered (l ∷ v ∷ c ∷ [])
+abbrev pub from_clauses : Result ClauseNumbers Refusal → Outcome
+from_clauses = from_result (λ n. n.words ∷ n.variables ∷ n.clauses ∷ [])
 
--- A verdict as a number.
-abbrev pub code : Verdict → ℕ
-code none = 0
-code clear = 1
-code split = 2
-
--- The verdict that the code's stands for.
-abbrev pub from_verdict : declared.Verdict → Verdict
-from_verdict verdict.None = none
-from_verdict verdict.Clear = clear
-from_verdict verdict.Split = split
-
--- What an answer of counting stands for.
-abbrev pub from_count : CountAnswer → Outcome
-from_count (counted.Refused refusal) = refused refusal
-from_count (counted.Counted c v) = answered (c ∷ code (from_verdict v) ∷ [])
+-- What a result of counting stands for.
+abbrev pub from_count : Result Counted Refusal → Outcome
+from_count = from_result (λ c. c.states ∷ code (from_verdict c.verdict) ∷ [])

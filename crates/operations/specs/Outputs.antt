@@ -13,7 +13,7 @@ use Rattle.sheet.specs.Sequence.{entries}
 use Rattle.sheet.specs.Sheet.{records, program}
 use Rattle.lparse_format.specs.Program.{lparse_program}
 use Rattle.lparse_format.specs.Text.{lparse_text}
-use Rattle.operations.specs.Outcome.{code}
+use Rattle.operations.specs.Verdicts.{code}
 
 -- Components: for each atom, written or fresh, the smallest atom of its component.
 unfoldable pub components_output : List ℕ → List ℕ

@@ -1,61 +1,76 @@
-// What the operations answer.
+// What the operations answer where nothing is refused.
 #![tactic(auto)]
 
-// Reading: the refusal, or the numbers of atoms and records.
+ghost use Rattle.std.specs.Prelude.{◌≡◌};
+ghost use Rattle.asp.specs.Count.{verdict};
+ghost use Rattle.operations.specs.Verdicts.{code, from_verdict};
+
+use std::fmt;
+
+// Where a record's body starts and ends in the sheet, and its number of positive atoms.
 #[derive(Clone, Copy)]
-pub enum ReadAnswer {
-    Refused(u32),
-    Header(usize, usize),
+pub struct BodyPlace {
+    pub start: usize,
+    pub end: usize,
+    pub positives: usize,
 }
 
-// Showing a body: the refusal, or the number of positive atoms.
+// The numbers of words written, of variables and of clauses.
 #[derive(Clone, Copy)]
-pub enum BodyAnswer {
-    Refused(u32),
-    Positives(usize),
-}
-
-// An operation that writes: the refusal, or the length written.
-#[derive(Clone, Copy)]
-pub enum WriteAnswer {
-    Refused(u32),
-    Length(usize),
-}
-
-// Testing a sequence: the refusal, or only that it passed.
-#[derive(Clone, Copy)]
-pub enum TestAnswer {
-    Refused(u32),
-    Passed,
-}
-
-// Writing clauses: the refusal, or the numbers of words written, of variables and of clauses.
-#[derive(Clone, Copy)]
-pub enum ClausesAnswer {
-    Refused(u32),
-    Written(usize, usize, usize),
+pub struct ClauseNumbers {
+    pub words: usize,
+    pub variables: usize,
+    pub clauses: usize,
 }
 
 // Whether there is no stable model, one, or more.
-#[derive(Clone, Copy)]
+#[derive(Clone, Copy, Debug, PartialEq, Eq)]
 pub enum Verdict {
     None,
     Clear,
     Split,
 }
 
-// Counting: the refusal, or the number of stable models with the verdict.
-#[derive(Clone, Copy)]
-pub enum CountAnswer {
-    Refused(u32),
-    Counted(u64, Verdict),
+impl Verdict {
+    // The verdict on a number of stable models.
+    pub fn on(states: u64) -> Verdict
+        ensures { from_verdict result ≡ verdict states }
+    {
+        match states {
+            0 => Verdict::None,
+            1 => Verdict::Clear,
+            _ => Verdict::Split,
+        }
+    }
 }
 
-// The refusal of showing a body, or 0 with where the body starts and ends and its number of positive atoms.
+// A verdict as a number, for a caller in C.
+impl From<Verdict> for u64 {
+    ghost from_gives = { λ v k. k ≡ code (from_verdict v) };
+
+    fn from(v: Verdict) -> u64 {
+        match v {
+            Verdict::None => 0,
+            Verdict::Clear => 1,
+            Verdict::Split => 2,
+        }
+    }
+}
+
+// A verdict as the count program prints it.
+impl fmt::Display for Verdict {
+    fn fmt<W: fmt::Write>(&self, f: &mut fmt::Formatter<W>) -> fmt::Result {
+        f.write_str(match self {
+            Verdict::None => "none",
+            Verdict::Clear => "clear",
+            Verdict::Split => "split",
+        })
+    }
+}
+
+// The number of stable models, with the verdict.
 #[derive(Clone, Copy)]
-pub struct BodyPlace {
-    pub refusal: u32,
-    pub start: usize,
-    pub end: usize,
-    pub positives: usize,
+pub struct Counted {
+    pub states: u64,
+    pub verdict: Verdict,
 }

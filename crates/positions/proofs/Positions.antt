@@ -1,64 +1,67 @@
--- Laws of positions in a sequence, and of the search for an atom in it.
+-- Laws of the position behind an atom.
 use mathlib.Core.List.Sublistᴰ
 use mathlib.Core.List.{List, [], ◌∷◌, Sublistᴰ, cons≢nil}
-use mathlib.Core.Logic.{◌↔◌, ⊎_elim}
+use mathlib.Core.Logic.{⊎_elim}
 use mathlib.Core.Path.{◌≡◌, sym, ◌∙◌, ap, subst}
-use Prim.Native.Nat.{ℕ, suc, ◌+◌, ◌≤◌, ◌<◌}
+use Prim.Native.Nat.{ℕ, zero, suc, ◌+◌, ◌-◌, ◌<◌}
 use native.Mathlib.Omega.{arith}
-use lib.ListN.{length, get_or, drop}
-use lib.Seq.{drop-cons, drop-length}
+use lib.Dec.{eqb}
+use lib.ListN.{length, get_or, take, drop, length-drop}
+use lib.Seq.{drop-drop, take_all}
+use Rattle.std.specs.Prelude.{Some, None, position}
 use Rattle.lists.proofs.Sublists.{sublist_tail, sublist_mem}
+use Rattle.bits.proofs.Places.{place_own, place_first, place_none}
 use Rattle.positions.specs.inner.Positions.{Position, Behind}
 
-module _ (q : List ℕ) (i : ℕ) (P : Position q i) where
-  -- None passes 640 + 3: the sequence's end is the last.
-  pub position_low : i ≤ 643
-  position_low = let inside = P.inside in let short = P.short in omega arith
+module _ (a : ℕ) (v : List ℕ) where
+  -- What starts with a is found in a list just where the rest is found behind its first a.
+  onward_at : (l : List ℕ) (p : ℕ) → ((j : ℕ) → j < p → get_or l j 0 ≡ a → ⊥) → Sublistᴰ (a ∷ v) l → Sublistᴰ v (drop (suc p) l)
+  onward_at [] p first S = absurd (cons≢nil (Sublistᴰ.eq-nil S))
+  onward_at (y ∷ l) zero first S = ⊎_elim (λ g. sublist_tail g) (λ g. g.1) (Sublistᴰ.cases_cons-cons S)
+  onward_at (y ∷ l) (suc p) first S =
+      ⊎_elim (λ g. onward_at l p (λ j h. first (suc j) (omega arith)) g) (λ g. absurd (first 0 (omega arith) (sym g.0))) (Sublistᴰ.cases_cons-cons S)
 
-  -- The one behind an entry.
-  pub position_next : i < length q → Position q (i + 1)
-  position_next l = record { start = let h = P.start in omega arith; inside = omega arith; short = P.short }
+  back_at : (l : List ℕ) (p : ℕ) → p < length l → get_or l p 0 ≡ a → Sublistᴰ v (drop (suc p) l) → Sublistᴰ (a ∷ v) l
+  back_at [] p h e S = absurd (omega arith)
+  back_at (y ∷ l) zero h e S = Sublistᴰ.cons-cons (sym e) S
+  back_at (y ∷ l) (suc p) h e S = Sublistᴰ.cons (back_at l p (omega arith) e S)
 
--- What starts with a is found from position i on just when it is from an earlier one.
-pub record Passing (q : List ℕ) (from a i : ℕ) : Type 0 where
-  pub position : Position q i
-  pub same : (v : List ℕ) → Sublistᴰ (a ∷ v) (drop from q) ↔ Sublistᴰ (a ∷ v) (drop i q)
+  none_at : (l : List ℕ) → ((j : ℕ) → j < length l → get_or l j 0 ≡ a → ⊥) → Sublistᴰ (a ∷ v) l → ⊥
+  none_at [] none S = cons≢nil (Sublistᴰ.eq-nil S)
+  none_at (y ∷ l) none S = ⊎_elim (λ g. none_at l (λ j h. none (suc j) (omega arith)) g) (λ g. none 0 (omega arith) (sym g.0)) (Sublistᴰ.cases_cons-cons S)
 
-module _ (q : List ℕ) (from a : ℕ) where
-  pub passing_start : Position q from → Passing q from a from
-  passing_start P = record { position = P; same = λ v. (λ h. h, λ h. h) }
+module _ (q : List ℕ) (from a : ℕ) (P : Position q from) where
+  -- The entries from a position on, as the code has them.
+  abbrev entries : List ℕ
+  entries = take (length q - from) (drop from q)
 
-  module _ (i x : ℕ) (R : Passing q from a i) (l : i < length q) (is : x ≡ get_or q i 0) where
-    entry : drop i q ≡ x ∷ drop (i + 1) q
-    entry = drop-cons q i 0 l ∙ (ap (λ y. y ∷ drop (suc i) q) (sym is) ∙ ap (λ j. x ∷ drop j q) (let e : suc i ≡ i + 1 = omega arith in e))
+  whole : entries ≡ drop from q
+  whole = take_all (length q - from) (drop from q) (let e = length-drop from q in omega arith)
 
-    next : Position q (i + 1)
-    next = position_next q i R.position l
+  module _ (p : ℕ) (e : Some p ≡ position (λ b. eqb b a) entries) where
+    found : position (λ b. eqb b a) (drop from q) ≡ Some p
+    found = rw whole at (sym e)
 
-    pub passing_turn : (x ≡ a → ⊥) → Passing q from a (i + 1)
-    passing_turn ne =
+    pub behind_found : Behind q from a (from + p + 1)
+    behind_found =
+        let u = place_own (drop from q) a p found in
+        let e = length-drop from q in
+        let inside = P.inside in
+        let start = P.start in
+        let rest : drop (suc p) (drop from q) ≡ drop (from + p + 1) q = drop-drop (suc p) from q ∙ ap (λ j. drop j q) (let e : from + suc p ≡ from + p + 1 = omega arith in e) in
         record {
-          position = next;
-          same = λ v. (
-            λ f. ⊎_elim (λ g. g) (λ g. absurd (ne (sym g.0))) (Sublistᴰ.cases_cons-cons (subst (Sublistᴰ (a ∷ v)) entry ((R.same v).0 f))),
-            λ f. (R.same v).1 (subst (Sublistᴰ (a ∷ v)) (sym entry) (Sublistᴰ.cons f)),
-          );
+          position = record { start = omega arith; inside = omega arith; short = P.short };
+          onward = λ v S. subst (Sublistᴰ v) rest (onward_at a v (drop from q) p (place_first (drop from q) a p found) S);
+          back = λ v m S. back_at a v (drop from q) p u.0 u.1 (subst (Sublistᴰ v) (sym rest) S);
         }
 
-    pub passing_found : x ≡ a → Behind q from a (i + 1)
-    passing_found e =
-        record {
-          position = next;
-          onward = λ v f. ⊎_elim (λ g. sublist_tail g) (λ g. g.1) (Sublistᴰ.cases_cons-cons (subst (Sublistᴰ (a ∷ v)) entry ((R.same v).0 f)));
-          back = λ v m f. (R.same v).1 (subst (Sublistᴰ (a ∷ v)) (sym entry) (Sublistᴰ.cons-cons (sym e) f));
-        }
-
-  pub passing_end : (i : ℕ) → Passing q from a i → length q ≤ i → Behind q from a i
-  passing_end i R l =
-      let h = R.position.inside in
-      let none : drop i q ≡ [] = ap (λ j. drop j q) (let e : i ≡ length q = omega arith in e) ∙ drop-length q in
+  pub behind_none : None ≡ position (λ b. eqb b a) entries → Behind q from a (length q)
+  behind_none e =
+      let inside = P.inside in
+      let start = P.start in
+      let none = place_none (drop from q) a (rw whole at (sym e)) in
       record {
-        position = R.position;
-        onward = λ v f. absurd (cons≢nil (Sublistᴰ.eq-nil (subst (Sublistᴰ (a ∷ v)) none ((R.same v).0 f))));
-        back = λ v m f. absurd (cons≢nil (Sublistᴰ.eq-nil (subst (Sublistᴰ (a ∷ [])) none ((R.same []).0 (sublist_mem m)))));
+        position = record { start = omega arith; inside = omega arith; short = P.short };
+        onward = λ v S. absurd (none_at a v (drop from q) none S);
+        back = λ v m S. absurd (none_at a [] (drop from q) none (sublist_mem m));
       }

@@ -4,7 +4,6 @@
 ghost use Rattle.std.specs.Prelude.{◌≡◌, ◌<◌};
 ghost use Rattle.program.specs.inner.Held.{table_rule};
 
-use bits::wide;
 use tables::{Program, Table, entry_at, record_at};
 
 // The numbers of atoms, of rules and of constraints.
@@ -31,7 +30,7 @@ pub fn rule_at(records: &Table, program: &Program, i: usize) -> TableRule
     ensures { result ≡ table_rule records.now program.now i }
 {
     let entry = entry_at(program, i);
-    let source = record_at(records, wide(entry.source));
+    let source = record_at(records, usize::from(entry.source));
     TableRule {
         head: entry.head,
         pos: source.pos,

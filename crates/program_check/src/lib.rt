@@ -2,52 +2,31 @@
 #![tactic(auto)]
 
 ghost use Rattle.std.specs.Prelude.{◌≡◌, ◌≤◌, length};
-ghost use Rattle.program.specs.inner.Held.{table_of};
 ghost use Rattle.components.specs.inner.Reachability.{NamesLow};
 ghost use Rattle.operations.specs.Requirements.{Supported, TableFor};
 ghost use Rattle.program_check.specs.inner.Checked.{NamedSets, ProgramChecked};
 
-use bits::wide;
 use program::ProgramSize;
+use refusals::Refusal;
 use sequence_check::check_sequence;
 use sheet::Limits;
 use sheet_check::check_records;
 use tables::{Program, Table};
 use translation::program_of;
 
-// What the questions about a sheet and a sequence say: the refusal, or 0 with the size of the sheet's program.
-#[derive(Clone, Copy)]
-pub struct ProgramNumbers {
-    pub refusal: u32,
-    pub size: ProgramSize,
-}
-
-fn no_program(refusal: u32) -> ProgramNumbers
-    ensures { result.refusal ≡ refusal }
-{
-    let size = ProgramSize {
-        atoms: 0,
-        rules: 0,
-        constraints: 0,
-    };
-    ProgramNumbers { refusal, size }
-}
-
 // For each of the atoms the set of its component's name.
 fn component_sets(atoms: usize, names: &[u8; 64], sets: &[u64; 64], components: &mut [u64; 64])
     requires { (atoms ≤ 64) × NamesLow atoms names.now × (length components.old ≡ 64) }
     ensures { NamedSets atoms names.now sets.now components.new }
 {
-    let mut a = 0;
-    while a < atoms {
-        let c = wide(names[a]);
+    for a in 0..atoms {
+        let c = usize::from(names[a]);
         components[a] = sets[c];
-        a += 1;
     }
 }
 
-// The questions about a sheet, then those about a sequence. The sheet's records and its program are left in the two tables, and for each
-// atom the set of its component.
+// The questions about a sheet, then those about a sequence; behind them the size of the sheet's program. The sheet's records and its
+// program are left in the two tables, and for each atom the set of its component.
 pub fn check_program(
     limits: Limits,
     s: &[u8],
@@ -56,11 +35,10 @@ pub fn check_program(
     program: &mut Program,
     components: &mut [u64; 64],
     table: &mut [u64],
-) -> ProgramNumbers
+) -> Result<ProgramSize, Refusal>
     requires { Supported limits × TableFor limits table.old × (length records.old ≡ 384) × (length program.old ≡ 192)
         × (length components.old ≡ 64) }
-    ensures { ProgramChecked limits s.now q.now components.new result.refusal
-        (table_of result.size records.new program.new) }
+    ensures { ProgramChecked limits s.now q.now components.new records.new program.new result }
 {
     let mut edges = [0u64; 64];
     let mut names = [0u8; 64];
@@ -68,15 +46,8 @@ pub fn check_program(
     let mut none = [0u64; 0];
     let a = check_records(
         limits, s, records, &mut edges, &mut names, &mut sets, &mut none,
-    );
-    if a.refusal != 0 {
-        return no_program(a.refusal);
-    }
-    let refusal = check_sequence(limits, a.atoms, &edges, &sets, q, table);
-    if refusal != 0 {
-        return no_program(refusal);
-    }
+    )?;
+    check_sequence(limits, a.atoms, &edges, &sets, q, table)?;
     component_sets(a.atoms, &names, &sets, components);
-    let size = program_of(a.written, a.records, records, program);
-    ProgramNumbers { refusal: 0, size }
+    Ok(program_of(a.written, a.records, records, program))
 }

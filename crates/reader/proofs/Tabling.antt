@@ -4,15 +4,20 @@ use mathlib.Core.Path.{◌≡◌, refl, sym, ◌∙◌, ap, ap₂, subst}
 use Prim.Native.Nat.{ℕ, zero, suc, ◌+◌, ◌-◌, ◌≤◌, ◌<◌}
 use native.Mathlib.Omega.{arith}
 use lib.ListN.{length}
+use Rattle.std.proofs.Common.{Ok, Err}
 use Rattle.lists.specs.Lists.{range}
 use Rattle.lists.specs.Rows.{Stored}
 use Rattle.lists.proofs.Rows.{rows_more, all_more}
+use Rattle.refusals.specs.declared.Refusal.{Refusal}
+use Rattle.refusals.specs.declared.Refusal.TheVariants as refusal
+use Rattle.refusals.specs.Numbers.{number}
+use Rattle.refusals.proofs.Asking.{number_positive, asked_value, asked_refusal}
 use Rattle.tables.specs.inner.Rows.{row_at}
 use Rattle.sheet.specs.Format.{end}
 use Rattle.sheet.specs.Sheet.{record_at, records_from}
 use Rattle.sheet.proofs.Records.{Checking, checking_start, checking_turn, checking_refused, checking_end, checking_left}
 use Rattle.reader.specs.declared.Entry.{Entry}
-use Rattle.reader.specs.inner.Tabled.{record_of, records_at, ExactRow, ExactSets, EntryRead, RecordsRead}
+use Rattle.reader.specs.inner.Tabled.{record_of, records_at, ExactRow, ExactSets, EntryRead, Tabled, RecordsRead}
 
 -- The first j records are stored.
 pub record Tabling (n m : ℕ) (s : List ℕ) (j at : ℕ) (t : List ℕ) : Type 0 where
@@ -33,14 +38,14 @@ module _ (n m : ℕ) (s : List ℕ) where
   first (suc left) at l = let e : suc left - 1 ≡ left = omega arith in rw e refl
 
   module _ (j at : ℕ) (t : List ℕ) (T : Tabling n m s j at t) where
-    module _ (lt : j < m) (r : Entry) (E : EntryRead n s at r) where
-      pub tabling_turn : (u : List ℕ) → Stored row_at t j r.row u → r.refusal ≡ 0 → Tabling n m s (j + 1) r.end u
+    module _ (lt : j < m) where
+      pub tabling_turn : (r : Entry) → EntryRead n s at (Ok r) → (u : List ℕ) → Stored row_at t j r.row u → Tabling n m s (j + 1) r.end u
       unfolding records_at
-      tabling_turn u S z =
-          let R = E.taken z in
+      tabling_turn r E u S =
+          let R = E.value in
           let less : m - j - 1 ≡ m - (j + 1) = omega arith in
           record {
-            checking = subst (λ i. Checking n s m i r.end) less (checking_turn n s m (m - j) at r.refusal r.end T.checking (omega arith) E.says z R.end);
+            checking = subst (λ i. Checking n s m i r.end) less (checking_turn n s m (m - j) at 0 r.end T.checking (omega arith) E.says refl R.end);
             few = omega arith;
             list = ap (λ l. l ++ records_from (m - (j + 1)) s r.end) (rows_more row_at t j r.row u S record_of)
                 ∙ (append_assoc (records_at t 0 j) _ _
@@ -50,22 +55,29 @@ module _ (n m : ℕ) (s : List ℕ) where
             exact = all_more row_at t j r.row u S ExactRow (j + 1) (λ i l ne. T.exact i (omega arith)) R.exact;
           }
 
-      pub tabling_refused : (r.refusal ≡ 0 → ⊥) → RecordsRead n m s t r.refusal
-      tabling_refused z = record { says = checking_refused n s m (m - j) at r.refusal T.checking (omega arith) E.says z; stored = λ y. absurd (z y); exact = λ y. absurd (z y); long = T.long }
+      pub tabling_refused : (e : Refusal) → EntryRead n s at (Err e) → RecordsRead n m s t (Err e)
+      tabling_refused e E =
+          record {
+            asked = asked_refusal _ (λ _. Tabled m s t) e (checking_refused n s m (m - j) at (number e) T.checking (omega arith) E.says (λ z. let p = number_positive e in omega arith));
+            long = T.long;
+          }
 
     module _ (over : m ≤ j) where
-      pub tabling_left : (at ≡ length s → ⊥) → RecordsRead n m s t 4
-      tabling_left ne = record { says = checking_left n s m (m - j) at T.checking (omega arith) ne; stored = λ y. absurd (omega arith); exact = λ y. absurd (omega arith); long = T.long }
+      pub tabling_left : (at ≡ length s → ⊥) → RecordsRead n m s t (Err refusal.Record)
+      tabling_left ne =
+          record { asked = asked_refusal _ (λ _. Tabled m s t) refusal.Record (checking_left n s m (m - j) at T.checking (omega arith) ne); long = T.long }
 
-      pub tabling_end : at ≡ length s → RecordsRead n m s t 0
+      pub tabling_end : at ≡ length s → RecordsRead n m s t (Ok tt)
       unfolding records_from
       tabling_end e =
           let f = T.few in
           let none : m - j ≡ 0 = omega arith in
           let all : j ≡ m = omega arith in
           record {
-            says = checking_end n s m (m - j) at T.checking (omega arith) e;
-            stored = λ _. ap (records_at t 0) (sym all) ∙ (sym (append-nil (records_at t 0 j)) ∙ (rw none at T.list));
-            exact = λ _. subst (λ i. ExactSets i t) all T.exact;
+            asked = asked_value _ (λ _. Tabled m s t) tt (checking_end n s m (m - j) at T.checking (omega arith) e)
+                record {
+                  stored = ap (records_at t 0) (sym all) ∙ (sym (append-nil (records_at t 0 j)) ∙ (rw none at T.list));
+                  exact = subst (λ i. ExactSets i t) all T.exact;
+                };
             long = T.long;
           }

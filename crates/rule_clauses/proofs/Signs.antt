@@ -13,7 +13,7 @@ use Rattle.bits.specs.inner.Visited.{listed, Lowest, Rest}
 use Rattle.program.specs.inner.Held.{added_atom}
 use Rattle.writer.specs.inner.Wrote.{Wrote}
 use Rattle.writer.proofs.Writing.{wrote_append}
-use Rattle.writer.proofs.Loops.{flat_map_one, flat_map_map, SetLeft, set_start, set_turn, set_room, set_length, set_end}
+use Rattle.writer.proofs.Loops.{flat_map_one, flat_map_map, SetLeft, set_turn, set_room, set_end}
 use Rattle.copies.specs.inner.Tables.{Values}
 use Rattle.rule_clauses.specs.inner.Literals.{literal_of, literal_by, pairs, pairs_words, flipped, flipped_words, added_literals, added_pair_words, added_flipped_words, SmallVariables}
 
@@ -70,9 +70,6 @@ module _ (vars : List ℕ) (plain : Bool) where
   flipped_size x = length-map (flipped vars plain x) signed ∙ length-map {B = Literal} (listed x) (λ b. negated (literal_by vars plain b))
 
   module _ (old : List ℤ) (at x : ℕ) where
-    pub flipped_start : FlippedLeft old at x old at x
-    flipped_start = set_start flipped_one old at x
-
     module _ (cur : List ℤ) (next left : ℕ) (S : FlippedLeft old at x cur next left) where
       pub flipped_room : (a : ℕ) → 0 < left → Lowest left a → at + length (listed x) ≤ length old → next < length cur
       flipped_room a p L h =
@@ -83,9 +80,6 @@ module _ (vars : List ℕ) (plain : Bool) where
       pub flipped_turn : (a r : ℕ) → Lowest left a → Rest left r → (new : List ℤ) (behind : ℕ) → Wrote cur next (signed (literal_of (not plain) (get_or vars a 0)) ∷ []) new behind
           → FlippedLeft old at x new behind r
       flipped_turn a r L R new behind W = set_turn flipped_one old at x cur next left S a r L R new behind W
-
-      pub flipped_length : length cur ≡ length old
-      flipped_length = set_length flipped_one old at x cur next left S
 
       pub flipped_end : left ≤ 0 → Wrote old at (flipped_words vars plain x) cur next
       flipped_end h = subst (λ ws. Wrote old at ws cur next) (flipped_are x) (set_end flipped_one old at x cur next left S h)
@@ -103,9 +97,6 @@ module _ (vars : List ℕ) (plain : Bool) (d : ℕ) where
   pairs_are x = sym (flat_map_map clause_words (λ b. negative d ∷ literal_by vars plain b ∷ []) (listed x))
 
   module _ (old : List ℤ) (at x : ℕ) where
-    pub pairs_start : PairsLeft old at x old at x
-    pairs_start = set_start pair_one old at x
-
     module _ (cur : List ℤ) (next left : ℕ) (S : PairsLeft old at x cur next left) where
       pub pairs_room : (a : ℕ) → 0 < left → Lowest left a → at + length (pairs_words vars plain d x) ≤ length old → next + 3 ≤ length cur
       pairs_room a p L h =
@@ -116,9 +107,6 @@ module _ (vars : List ℕ) (plain : Bool) (d : ℕ) where
       pub pairs_turn : (a r : ℕ) → Lowest left a → Rest left r → (new : List ℤ) (behind : ℕ) → Wrote cur next (clause_words (literal_of false d ∷ literal_of plain (get_or vars a 0) ∷ [])) new behind
           → PairsLeft old at x new behind r
       pairs_turn a r L R new behind W = set_turn pair_one old at x cur next left S a r L R new behind W
-
-      pub pairs_length : length cur ≡ length old
-      pairs_length = set_length pair_one old at x cur next left S
 
       pub pairs_end : left ≤ 0 → Wrote old at (pairs_words vars plain d x) cur next
       pairs_end h = subst (λ ws. Wrote old at ws cur next) (pairs_are x) (set_end pair_one old at x cur next left S h)
@@ -160,8 +148,8 @@ module _ (added : ℕ) (old : List ℤ) (at : ℕ) where
     pub pair_room : (d : ℕ) → at + length (added_pair_words d added) ≤ length old → at + 3 ≤ length old
     pair_room d h = let e = ap length (pair_is d) in let k = two_size (literal_of false d) (literal_of false added) in omega arith
 
-    pub pair_one_lem : (d : ℕ) (new : List ℤ) (r : ℕ) → Wrote old at (clause_words (literal_of false d ∷ literal_of false added ∷ [])) new r → Wrote old at (added_pair_words d added) new r
-    pair_one_lem d new r W = rw (pair_is d) W
+    pub pair_one_lem : (d v : ℕ) → v ≡ added → (new : List ℤ) (r : ℕ) → Wrote old at (clause_words (literal_of false d ∷ literal_of false v ∷ [])) new r → Wrote old at (added_pair_words d added) new r
+    pair_one_lem d v e new r W = rw (pair_is d) (rw e at W)
 
     flip_is : added_flipped_words added ≡ pos added ∷ []
     unfolding added_flipped_words literal_of negated signed
@@ -170,5 +158,5 @@ module _ (added : ℕ) (old : List ℤ) (at : ℕ) where
     pub flip_room : at + length (added_atom added) ≤ length old → at < length old
     flip_room h = let e = ap length flip_is in let k = added_size added in omega arith
 
-    pub flip_one : (new : List ℤ) (r : ℕ) → Wrote old at (pos added ∷ []) new r → Wrote old at (added_flipped_words added) new r
-    flip_one new r W = rw flip_is W
+    pub flip_one : (v : ℕ) → v ≡ added → (new : List ℤ) (r : ℕ) → Wrote old at (pos v ∷ []) new r → Wrote old at (added_flipped_words added) new r
+    flip_one v e new r W = rw flip_is (rw e at W)

@@ -72,7 +72,7 @@ fn put_added_pair(out: &mut [i32], at: usize, d: u32, added: u8) -> usize
     if added == 0 {
         return at;
     }
-    put_two(out, at, false, d, false, added as u32)
+    put_two(out, at, false, d, false, u32::from(added))
 }
 
 // The literal of an added atom, negated.
@@ -83,7 +83,7 @@ fn put_added_flipped(out: &mut [i32], at: usize, added: u8) -> usize
     if added == 0 {
         return at;
     }
-    put_plain(out, at, added as u32)
+    put_plain(out, at, u32::from(added))
 }
 
 // For each literal of a rule's body the clause of -d and it.

@@ -16,7 +16,7 @@ pub extern "C" fn rulehub_read(sheet: &[u8], atoms: &mut u64, records: &mut u64)
     ensures { Returned hub (call.read sheet.now) result
         (atoms.old ∷ records.old ∷ []) (atoms.new ∷ records.new ∷ []) nothing }
 {
-    store_read(hub::read(sheet), atoms, records)
+    store_read(hub::service().read(sheet), atoms, records)
 }
 
 // Showing a body: its number of positive atoms, and where its slice of the sheet starts and how long it is.
@@ -32,7 +32,7 @@ pub extern "C" fn rulehub_body(
         (positives.old ∷ offset.old ∷ length.old ∷ [])
         (positives.new ∷ offset.new ∷ length.new ∷ []) nothing }
 {
-    let place = hub::find_body(sheet, number as usize);
+    let place = hub::service().find_body(sheet, number as usize);
     store_body(place, positives, offset, length)
 }
 
@@ -42,7 +42,7 @@ pub extern "C" fn rulehub_components(sheet: &[u8], out: &mut [u8], written: &mut
     ensures { Returned hub (call.components sheet.now out.old) result
         (written.old ∷ []) (written.new ∷ []) (naturals out.new) }
 {
-    store_length(hub::components(sheet, out), written)
+    store_length(hub::service().components(sheet, out), written)
 }
 
 // The default sequence.
@@ -51,7 +51,7 @@ pub extern "C" fn rulehub_default(sheet: &[u8], out: &mut [u8], written: &mut u6
     ensures { Returned hub (call.default sheet.now out.old) result
         (written.old ∷ []) (written.new ∷ []) (naturals out.new) }
 {
-    store_length(hub::default_sequence(sheet, out), written)
+    store_length(hub::service().default_sequence(sheet, out), written)
 }
 
 // Writing lparse text.
@@ -60,7 +60,7 @@ pub extern "C" fn rulehub_lparse(sheet: &[u8], out: &mut [u8], written: &mut u64
     ensures { Returned hub (call.lparse sheet.now out.old) result
         (written.old ∷ []) (written.new ∷ []) (naturals out.new) }
 {
-    store_length(hub::lparse(sheet, out), written)
+    store_length(hub::service().lparse(sheet, out), written)
 }
 
 // Testing a sequence.
@@ -68,7 +68,7 @@ pub extern "C" fn rulehub_lparse(sheet: &[u8], out: &mut [u8], written: &mut u64
 pub extern "C" fn rulehub_test(sheet: &[u8], sequence: &[u8]) -> u32
     ensures { Returned hub (call.test sheet.now sequence.now) result [] [] nothing }
 {
-    store_test(hub::test(sheet, sequence))
+    store_test(hub::service().test(sheet, sequence))
 }
 
 // Finding the missing chain.
@@ -82,7 +82,7 @@ pub extern "C" fn rulehub_missing(
     ensures { Returned hub (call.missing sheet.now sequence.now out.old) result
         (written.old ∷ []) (written.new ∷ []) (naturals out.new) }
 {
-    store_length(hub::missing(sheet, sequence, out), written)
+    store_length(hub::service().missing(sheet, sequence, out), written)
 }
 
 // Writing the unfolded program.
@@ -96,7 +96,7 @@ pub extern "C" fn rulehub_unfolded(
     ensures { Returned hub (call.unfolded sheet.now sequence.now out.old) result
         (written.old ∷ []) (written.new ∷ []) (naturals out.new) }
 {
-    store_length(hub::unfolded(sheet, sequence, out), written)
+    store_length(hub::service().unfolded(sheet, sequence, out), written)
 }
 
 // Writing clauses.
@@ -113,7 +113,7 @@ pub extern "C" fn rulehub_clauses(
         (written.old ∷ variables.old ∷ clauses.old ∷ [])
         (written.new ∷ variables.new ∷ clauses.new ∷ []) (integers out.new) }
 {
-    let answer = hub::clauses(sheet, sequence, out);
+    let answer = hub::service().clauses(sheet, sequence, out);
     store_clauses(answer, written, variables, clauses)
 }
 
@@ -123,5 +123,5 @@ pub extern "C" fn rulehub_count(sheet: &[u8], count: &mut u64, verdict: &mut u64
     ensures { Returned hub (call.count sheet.now) result
         (count.old ∷ verdict.old ∷ []) (count.new ∷ verdict.new ∷ []) nothing }
 {
-    store_count(hub::count(sheet), count, verdict)
+    store_count(hub::service().count(sheet), count, verdict)
 }

@@ -16,7 +16,7 @@ pub extern "C" fn rulesheet_read(sheet: &[u8], atoms: &mut u64, records: &mut u6
     ensures { Returned office (call.read sheet.now) result
         (atoms.old ∷ records.old ∷ []) (atoms.new ∷ records.new ∷ []) nothing }
 {
-    store_read(office::read(sheet), atoms, records)
+    store_read(office::service().read(sheet), atoms, records)
 }
 
 // Showing a body: its number of positive atoms, and where its slice of the sheet starts and how long it is.
@@ -32,7 +32,7 @@ pub extern "C" fn rulesheet_body(
         (positives.old ∷ offset.old ∷ length.old ∷ [])
         (positives.new ∷ offset.new ∷ length.new ∷ []) nothing }
 {
-    let place = office::find_body(sheet, number as usize);
+    let place = office::service().find_body(sheet, number as usize);
     store_body(place, positives, offset, length)
 }
 
@@ -42,7 +42,7 @@ pub extern "C" fn rulesheet_components(sheet: &[u8], out: &mut [u8], written: &m
     ensures { Returned office (call.components sheet.now out.old) result
         (written.old ∷ []) (written.new ∷ []) (naturals out.new) }
 {
-    store_length(office::components(sheet, out), written)
+    store_length(office::service().components(sheet, out), written)
 }
 
 // The default sequence.
@@ -51,7 +51,7 @@ pub extern "C" fn rulesheet_default(sheet: &[u8], out: &mut [u8], written: &mut 
     ensures { Returned office (call.default sheet.now out.old) result
         (written.old ∷ []) (written.new ∷ []) (naturals out.new) }
 {
-    store_length(office::default_sequence(sheet, out), written)
+    store_length(office::service().default_sequence(sheet, out), written)
 }
 
 // Writing lparse text.
@@ -60,7 +60,7 @@ pub extern "C" fn rulesheet_lparse(sheet: &[u8], out: &mut [u8], written: &mut u
     ensures { Returned office (call.lparse sheet.now out.old) result
         (written.old ∷ []) (written.new ∷ []) (naturals out.new) }
 {
-    store_length(office::lparse(sheet, out), written)
+    store_length(office::service().lparse(sheet, out), written)
 }
 
 // Testing a sequence.
@@ -68,7 +68,7 @@ pub extern "C" fn rulesheet_lparse(sheet: &[u8], out: &mut [u8], written: &mut u
 pub extern "C" fn rulesheet_test(sheet: &[u8], sequence: &[u8]) -> u32
     ensures { Returned office (call.test sheet.now sequence.now) result [] [] nothing }
 {
-    store_test(office::test(sheet, sequence))
+    store_test(office::service().test(sheet, sequence))
 }
 
 // Finding the missing chain.
@@ -82,7 +82,7 @@ pub extern "C" fn rulesheet_missing(
     ensures { Returned office (call.missing sheet.now sequence.now out.old) result
         (written.old ∷ []) (written.new ∷ []) (naturals out.new) }
 {
-    store_length(office::missing(sheet, sequence, out), written)
+    store_length(office::service().missing(sheet, sequence, out), written)
 }
 
 // Writing the unfolded program.
@@ -96,7 +96,7 @@ pub extern "C" fn rulesheet_unfolded(
     ensures { Returned office (call.unfolded sheet.now sequence.now out.old) result
         (written.old ∷ []) (written.new ∷ []) (naturals out.new) }
 {
-    store_length(office::unfolded(sheet, sequence, out), written)
+    store_length(office::service().unfolded(sheet, sequence, out), written)
 }
 
 // Writing clauses.
@@ -113,7 +113,7 @@ pub extern "C" fn rulesheet_clauses(
         (written.old ∷ variables.old ∷ clauses.old ∷ [])
         (written.new ∷ variables.new ∷ clauses.new ∷ []) (integers out.new) }
 {
-    let answer = office::clauses(sheet, sequence, out);
+    let answer = office::service().clauses(sheet, sequence, out);
     store_clauses(answer, written, variables, clauses)
 }
 
@@ -123,5 +123,5 @@ pub extern "C" fn rulesheet_count(sheet: &[u8], count: &mut u64, verdict: &mut u
     ensures { Returned office (call.count sheet.now) result
         (count.old ∷ verdict.old ∷ []) (count.new ∷ verdict.new ∷ []) nothing }
 {
-    store_count(office::count(sheet), count, verdict)
+    store_count(office::service().count(sheet), count, verdict)
 }

@@ -14,7 +14,7 @@ use Rattle.tables.specs.inner.Rows.{row_at}
 use Rattle.tables.specs.declared.SheetRecord.{SheetRecord}
 use Rattle.search.specs.inner.Rules.{BodyAt, BodyHolds, Lawful}
 use Rattle.search.specs.declared.Sizes.{Sizes}
-use Rattle.search.proofs.Rules.{subset_all, apart_outside}
+use Rattle.search.proofs.Firing.{subset_all, apart_outside}
 
 module _ (x pos neg : ℕ) where
   pub body_fits : (b : Bool) (y : ℕ) → Subset pos x b → b ≡ true → y < 2 ^ 64 → Both neg x y → BodyHolds x pos neg (eqb y 0)
@@ -22,9 +22,9 @@ module _ (x pos neg : ℕ) where
   body_fits b y S t l B =
       record { is = λ d M. apart_outside neg x y d.neg l M.negatives B ∙ sym (rw (sym (subset_all pos x d.pos b M.positives S) ∙ t) refl) }
 
-  pub body_lacks : (b : Bool) → Subset pos x b → b ≡ false → BodyHolds x pos neg false
+  pub body_lacks : (b : Bool) → Subset pos x b → b ≡ false → BodyHolds x pos neg b
   unfolding holds
-  body_lacks b S f = record { is = λ d M. sym (rw (sym (subset_all pos x d.pos b M.positives S) ∙ f) refl) }
+  body_lacks b S f = record { is = λ d M. f ∙ sym (rw (sym (subset_all pos x d.pos b M.positives S) ∙ f) refl) }
 
 -- None of the constraints from k on, before j, is violated.
 pub record Obeying (t : List ℕ) (x k j : ℕ) : Type 0 where

@@ -1,5 +1,5 @@
 pub mod Branching
-pub mod Rules
+pub mod Firing
 pub mod Passes
 pub mod Constraints
 pub mod Tasks

@@ -17,9 +17,8 @@ use Rattle.search.proofs.Branching.{fires_out, fires_in}
 use Rattle.bits.specs.inner.Sets.{has}
 use Rattle.tables.specs.inner.Rows.{row_at}
 use Rattle.tables.specs.declared.SheetRecord.{SheetRecord}
-use Rattle.search.specs.inner.Rules.{Masks, RuleAt, HeldRules, passes, Applies, Fired, FiredAt, operator, Ready, Onward, LeastBy}
-use Rattle.search.specs.declared.Bound.{Bound}
-use Rattle.search.proofs.Rules.{masked_all, all_masked}
+use Rattle.search.specs.inner.Rules.{Masks, Bound, RuleAt, HeldRules, passes, Applies, Fired, FiredAt, operator, Ready, Onward, LeastBy}
+use Rattle.search.proofs.Firing.{masked_all, all_masked}
 
 pub head_low : (t : List ℕ) (j h : ℕ) (R : SheetRecord) → R ≡ row_at t j → h ≡ R.head → (row_at t j).head < 64 → h < 64
 head_low t j h R same e l = rw (e, same) l

@@ -1,5 +1,5 @@
 -- Laws of the search, one for each way out.
-use mathlib.Core.Bool.{Bool, true, false, not, ◌&&◌, ◌||◌}
+use mathlib.Core.Bool.{Bool, true, false, not, ◌&&◌, ◌||◌, cond}
 use mathlib.Core.List.{List}
 use mathlib.Core.Logic.{◌⊎◌, inl, inr, ⊎_elim}
 use mathlib.Core.Path.{◌≡◌, refl, sym, ◌∙◌, ap, subst, fun_ext}
@@ -9,6 +9,7 @@ use native.Mathlib.Omega.{arith}
 use borrow.Author.Tests.{eqb-true, eq-eqb}
 use lib.Dec.{eqb}
 use lib.Pow.{pow_pos, pow_mono}
+use Rattle.std.specs.Int.{from_bool}
 use Rattle.lists.specs.Lists.{range}
 use Rattle.lists.proofs.Bools.{by_bool, true_false, is_true, is_false, bool_ext, and_intro, and_left, and_right, or_cases, or_left, or_right, not_intro, not_elim}
 use Rattle.lists.proofs.Members.{range_in}
@@ -21,10 +22,9 @@ use Rattle.search.proofs.Branching.{count_split}
 use Rattle.bits.specs.inner.Sets.{has, With, Subset, Both, Either, Difference}
 use Rattle.bits.proofs.Digits.{zero_has}
 use Rattle.search.specs.inner.Rules.{Masks, LeastBy, Lawful}
-use Rattle.search.specs.inner.Search.{lower, deciding, is_open, undecided, Task, Leaf, Last, Propagated, Member, Counted}
+use Rattle.search.specs.inner.Search.{lower, deciding, is_open, undecided, Task, Leaf, Last, Refuted, Follows, Member, Counted}
 use Rattle.search.specs.declared.Sizes.{Sizes}
 use Rattle.search.specs.declared.Decisions.{Decisions}
-use Rattle.search.specs.declared.Propagation.{Propagation}
 use Rattle.search.proofs.Tasks.{candidate, more, met}
 
 -- One decision more.
@@ -45,16 +45,17 @@ module _ (x c y : ℕ) (W : With x c y) where
   with_cases : (a : ℕ) → has y a ≡ true → (a ≡ c) ⊎ (has x a ≡ true)
   with_cases a e = ⊎_elim (λ q. inl (eqb-true a c q)) inr (or_cases (eqb a c) (has x a) (sym (W.members a) ∙ e))
 
+number : (d : Bool) → from_bool d ≡ cond d 1 0
+number true = refl
+number false = refl
+
 -- The leaf's code.
 module _ (t : List ℕ) (s : Sizes) (i l : ℕ) where
   pub leaf_lacks : (b : Bool) → Subset i l b → b ≡ false → Leaf t s i l 0
   leaf_lacks b S f = record { holds_in = b; asked = S; obeys = true; tested = λ t. absurd (true_false t f); is = rw f refl }
 
-  pub leaf_fits : (b d : Bool) → Subset i l b → b ≡ true → Lawful t s l d → d ≡ true → Leaf t s i l 1
-  leaf_fits b d S t K e = record { holds_in = b; asked = S; obeys = d; tested = λ _. K; is = rw (t, e) refl }
-
-  pub leaf_breaks : (b d : Bool) → Subset i l b → b ≡ true → Lawful t s l d → d ≡ false → Leaf t s i l 0
-  leaf_breaks b d S t K e = record { holds_in = b; asked = S; obeys = d; tested = λ _. K; is = rw (t, e) refl }
+  pub leaf_tested : (b d : Bool) (v : ℕ) → Subset i l b → b ≡ true → Lawful t s l d → v ≡ from_bool d → Leaf t s i l v
+  leaf_tested b d v S t K e = record { holds_in = b; asked = S; obeys = d; tested = λ _. K; is = e ∙ (number d ∙ rw t refl) }
 
   leaf_small : (v : ℕ) → Leaf t s i l v → v ≤ 1
   leaf_small v K =
@@ -72,95 +73,94 @@ module _ (M : Masks) (d : Decisions) (l : ℕ) (B : LeastBy M (lower d) 0 l) whe
       record { is = λ n rs cs T all-decided. candidate n rs cs M d T l B all-decided r s W z v K; small = leaf_small M.records M.sizes d.ins l v K }
 
 -- Fewer atoms are undecided.
-fewer : (d : Decisions) (i o c : ℕ) → Inside (has d.ins) (has i) → Inside (has d.outs) (has o) → c < 64 → is_open d c ≡ true → (has i c || has o c) ≡ true
-    → undecided (deciding d i o) < undecided d
+fewer : (d e : Decisions) (c : ℕ) → e.atoms ≡ d.atoms → Inside (has d.ins) (has e.ins) → Inside (has d.outs) (has e.outs) → c < 64 → is_open d c ≡ true → (has e.ins c || has e.outs c) ≡ true
+    → undecided e < undecided d
 unfolding undecided
-fewer d i o c p q l t e =
-    filter_lt (is_open (deciding d i o)) (is_open d) (range 0 64) (nodup_range 0 64)
-    (λ a _ e. open_more a e) c (range_in 0 64 c (omega arith) (omega arith))
-    (is_false (λ s. true_false e (not_elim (and_right (has d.atoms c) (not (has i c || has o c)) s)))) t
+fewer d e c same p q l t h =
+    filter_lt (is_open e) (is_open d) (range 0 64) (nodup_range 0 64)
+    (λ a _ h. open_more a h) c (range_in 0 64 c (omega arith) (omega arith))
+    (is_false (λ s. true_false h (not_elim (and_right (has e.atoms c) (not (has e.ins c || has e.outs c)) s)))) t
   where
-    open_more : (a : ℕ) → is_open (deciding d i o) a ≡ true → is_open d a ≡ true
-    open_more a e =
-        and_intro (and_left (has d.atoms a) (not (has i a || has o a)) e)
-        (not_intro (is_false (λ s. true_false (⊎_elim (λ v. or_left (has o a) (p a v)) (λ v. or_right (has i a) (q a v)) (or_cases (has d.ins a) (has d.outs a) s))
-        (not_elim (and_right (has d.atoms a) (not (has i a || has o a)) e)))))
+    open_more : (a : ℕ) → is_open e a ≡ true → is_open d a ≡ true
+    open_more a h =
+        and_intro (ap (λ x. has x a) (sym same) ∙ and_left (has e.atoms a) (not (has e.ins a || has e.outs a)) h)
+        (not_intro (is_false (λ s. true_false (⊎_elim (λ v. or_left (has e.outs a) (p a v)) (λ v. or_right (has e.ins a) (q a v)) (or_cases (has d.ins a) (has d.outs a) s))
+        (not_elim (and_right (has e.atoms a) (not (has e.ins a || has e.outs a)) h)))))
 
 -- The ways out of the search.
-module _ (M : Masks) (d : Decisions) (p : Propagation) (N : Propagated M d p) where
-  abbrev then : ℕ → ℕ → Decisions
-  then i o = deciding d i o
+pub found_none : (M : Masks) (d : Decisions) → Refuted M d → Counted M d 0
+found_none M d R = record { is = λ n rs cs T. sym (R.is n rs cs T); small = omega arith }
 
+module _ (M : Masks) (d p : Decisions) (N : Follows M d p) where
   abbrev ins : ℕ
   ins = p.ins
 
   abbrev outs : ℕ
   outs = p.outs
 
-  pub found_none : p.clash ≡ true → Counted M d 0
-  found_none t = record { is = λ n rs cs T. sym ((N.is n rs cs T).none t); small = omega arith }
+  module _ (e z : ℕ) (E : Either ins outs e) (D : Difference p.atoms e z) where
+    open_here : (a : ℕ) → has z a ≡ is_open p a
+    open_here a = D.members a ∙ ap (λ (b : Bool). has p.atoms a && not b) (E.members a)
 
-  module _ (e z : ℕ) (E : Either ins outs e) (D : Difference d.atoms e z) where
-    open_here : (a : ℕ) → has z a ≡ is_open (then ins outs) a
-    open_here a = D.members a ∙ ap (λ (b : Bool). has d.atoms a && not b) (E.members a)
-
-    pub found_last : (v : ℕ) → p.clash ≡ false → z ≡ 0 → Last M (then ins outs) v → Counted M d v
-    found_last v f none K =
+    pub found_last : (v : ℕ) → z ≡ 0 → Last M p v → Counted M d v
+    found_last v none K =
         record {
           is = λ n rs cs T. let U = N.is n rs cs T in
-              K.is n rs cs (U.task f) (λ a t. is_true (λ q. true_false (open_here a ∙ and_intro t (not_intro q)) (ap (λ z. has z a) none ∙ zero_has a))) ∙ sym (U.same f);
+              K.is n rs cs U.task (λ a t. is_true (λ q. true_false (open_here a ∙ and_intro t (not_intro q)) (ap (λ z. has z a) none ∙ zero_has a))) ∙ sym U.same;
           small = let s = pow_pos (undecided d) in let q = K.small in omega arith;
         }
 
     module _ (c : ℕ) (C : Member z c) where
-      here : is_open (then ins outs) c ≡ true
+      here : is_open p c ≡ true
       here = sym (open_here c) ∙ C.inside
 
       free : (has ins c || has outs c) ≡ false
-      free = not_elim (and_right (has d.atoms c) (not (has ins c || has outs c)) here)
+      free = not_elim (and_right (has p.atoms c) (not (has ins c || has outs c)) here)
 
       opened : is_open d c ≡ true
       opened =
-          and_intro (and_left (has d.atoms c) (not (has ins c || has outs c)) here)
+          and_intro (ap (λ x. has x c) (sym N.atoms) ∙ and_left (has p.atoms c) (not (has ins c || has outs c)) here)
           (not_intro (is_false (λ s. true_false (⊎_elim (λ v. or_left (has outs c) (N.more_ins c v)) (λ v. or_right (has ins c) (N.more_outs c v)) (or_cases (has d.ins c) (has d.outs c) s)) free)))
 
-      pub fewer_in : (i : ℕ) → With ins c i → undecided (then i outs) < undecided d
-      fewer_in i I = fewer d i outs c (λ a t. with_kept ins c i I a (N.more_ins a t)) N.more_outs C.low opened (or_left (has outs c) (with_own ins c i I))
+      pub fewer_in : (i : ℕ) → With ins c i → undecided (deciding p i outs) < undecided d
+      fewer_in i I =
+          fewer d (deciding p i outs) c N.atoms (λ a t. with_kept ins c i I a (N.more_ins a t)) N.more_outs C.low opened (or_left (has outs c) (with_own ins c i I))
 
-      pub fewer_out : (o : ℕ) → With outs c o → undecided (then ins o) < undecided d
-      fewer_out o O = fewer d ins o c N.more_ins (λ a t. with_kept outs c o O a (N.more_outs a t)) C.low opened (or_right (has ins c) (with_own outs c o O))
+      pub fewer_out : (o : ℕ) → With outs c o → undecided (deciding p ins o) < undecided d
+      fewer_out o O =
+          fewer d (deciding p ins o) c N.atoms N.more_ins (λ a t. with_kept outs c o O a (N.more_outs a t)) C.low opened (or_right (has ins c) (with_own outs c o O))
 
-      module _ (n : ℕ) (rs : List CountRule) (cs : List Body) (T : Task n rs cs M (then ins outs)) where
+      module _ (n : ℕ) (rs : List CountRule) (cs : List Body) (T : Task n rs cs M p) where
         own : c < n
-        own = T.low c (and_left (has d.atoms c) (not (has ins c || has outs c)) here)
+        own = T.low c (and_left (has p.atoms c) (not (has ins c || has outs c)) here)
 
-        task_in : (i : ℕ) → With ins c i → Task n rs cs M (then i outs)
+        task_in : (i : ℕ) → With ins c i → Task n rs cs M (deciding p i outs)
         task_in i I =
-            more n rs cs M (then ins outs) T i outs
+            more n rs cs M p T i outs
             (λ a t. ⊎_elim (λ q. subst (λ b. b < n) (sym q) own) (T.ins_low a) (with_cases ins c i I a t))
             (λ a t. ⊎_elim (λ q. ap (has outs) q ∙ is_false (λ s. true_false (or_right (has ins c) s) free)) (T.apart a) (with_cases ins c i I a t))
 
-        task_out : (o : ℕ) → With outs c o → Task n rs cs M (then ins o)
+        task_out : (o : ℕ) → With outs c o → Task n rs cs M (deciding p ins o)
         task_out o O =
-            more n rs cs M (then ins outs) T ins o T.ins_low
+            more n rs cs M p T ins o T.ins_low
             (λ a t. is_false (λ s. ⊎_elim (λ q. true_false (or_left (has outs c) (subst (λ b. has ins b ≡ true) q t)) free) (λ q. true_false q (T.apart a t)) (with_cases outs c o O a s)))
 
-      pub found_sum : (i o v w : ℕ) → p.clash ≡ false → With ins c i → With outs c o → Counted M (then i outs) v → Counted M (then ins o) w → Counted M d (v + w)
-      found_sum i o v w f I O A B =
+      pub found_sum : (i o v w : ℕ) → With ins c i → With outs c o → Counted M (deciding p i outs) v → Counted M (deciding p ins o) w → Counted M d (v + w)
+      found_sum i o v w I O A B =
           record {
             is = λ n rs cs T.
                 let U = N.is n rs cs T in
-                let T' = U.task f in
+                let T' = U.task in
                 ap (λ z. z + w) (A.is n rs cs (task_in n rs cs T' i I) ∙ ap (λ X. count_by n rs cs X (has outs)) (with_state ins c i I))
                 ∙ (ap (λ z. count_by n rs cs (with c (has ins)) (has outs) + z) (B.is n rs cs (task_out n rs cs T' o O) ∙ ap (count_by n rs cs (has ins)) (with_state outs c o O))
-                ∙ (sym (count_split n rs cs (has ins) (has outs) c (own n rs cs T')) ∙ sym (U.same f)));
+                ∙ (sym (count_split n rs cs (has ins) (has outs) c (own n rs cs T')) ∙ sym U.same));
             small =
                 let a = A.small in
                 let b = B.small in
-                let g = pow_mono {i = suc (undecided (then i outs))} {j = undecided d} (fewer_in i I) in
-                let h = pow_mono {i = suc (undecided (then ins o))} {j = undecided d} (fewer_out o O) in
-                let s = pow-suc 2 (undecided (then i outs)) in
-                let t = pow-suc 2 (undecided (then ins o)) in
+                let g = pow_mono {i = suc (undecided (deciding p i outs))} {j = undecided d} (fewer_in i I) in
+                let h = pow_mono {i = suc (undecided (deciding p ins o))} {j = undecided d} (fewer_out o O) in
+                let s = pow-suc 2 (undecided (deciding p i outs)) in
+                let t = pow-suc 2 (undecided (deciding p ins o)) in
                 omega arith;
           }
 

@@ -20,11 +20,10 @@ use Rattle.asp.proofs.Counted.{states_within}
 use Rattle.search.proofs.Branching.{StableBy, stable_by_out, fires_out, definites_more, sure_applies, none_counted, upper_inside, agree_in, agree_out, agree_make, clash_lower, clash_upper, leaf_one, leaf_unlawful}
 use Rattle.bits.specs.inner.Sets.{has, Subset, Both, Either, Difference}
 use Rattle.bits.proofs.Digits.{zero_has}
-use Rattle.search.specs.inner.Rules.{Masks, operator, LeastBy}
+use Rattle.search.specs.inner.Rules.{Masks, Bound, operator, LeastBy}
 use Rattle.search.specs.inner.Search.{lower, upper, deciding, agreeing, Task, Leaf}
-use Rattle.search.specs.declared.Bound.{Bound}
 use Rattle.search.specs.declared.Decisions.{Decisions}
-use Rattle.search.proofs.Rules.{empty_both}
+use Rattle.search.proofs.Firing.{empty_both}
 
 -- What surely applies possibly does.
 surely_possibly : (i o : ℕ) → ((a : ℕ) → has i a ≡ true → has o a ≡ false) → (r : CountRule) → surely (has i) (has o) r ≡ true → possibly (has i) (has o) r ≡ true

@@ -4,6 +4,10 @@ use mathlib.Core.List.{List, [], ◌∷◌}
 use mathlib.Core.Path.{◌≡◌, sym, ◌∙◌, ap}
 use Prim.Native.Nat.{ℕ}
 use native.Mathlib.Omega.{arith}
+use Rattle.std.proofs.Common.{Result, Ok, Err}
+use Rattle.refusals.specs.declared.Refusal.{Refusal}
+use Rattle.refusals.specs.Numbers.{number, refusal_of}
+use Rattle.refusals.proofs.Asking.{number_positive}
 use Rattle.sheet.specs.Questions.{ask, ◌then◌, first_refusal}
 use Rattle.sheet.specs.Sequence.{sequence_fits}
 use Rattle.sheet.specs.Sheet.{program}
@@ -19,34 +23,36 @@ use Rattle.sheet_check.specs.declared.SheetNumbers.{SheetNumbers}
 use Rattle.sheet_check.proofs.Sheets.{sheet_graph}
 use Rattle.sequence_check.specs.inner.Checked.{entries_refusal, SequenceChecked}
 
-module _ (L : Limits) (s q es cs ss : List ℕ) (a : SheetNumbers) (A : SheetChecked L s es cs ss a) where
+module _ (L : Limits) (s q es cs ss : List ℕ) where
   -- A refusal of the sheet is one of what is given, whatever is asked behind it.
-  pub sheet_refuses : (a.refusal ≡ 0 → ⊥) → (more : ℕ) → a.refusal ≡ input_refusal L (with_sequence s q) then more
-  sheet_refuses ne more =
-      let here : input_refusal L (with_sequence s q) ≡ a.refusal = sequence_parted L s q ∙ (then_refused (sheet_refusal L s) _ (λ z. ne (A.says ∙ z)) ∙ sym A.says) in
-      sym (ap (λ r. r then more) here ∙ then_refused a.refusal more ne)
+  module _ (e : Refusal) (A : SheetChecked L s es cs ss (Err e)) where
+    pub sheet_refuses : (more : ℕ) → number e ≡ input_refusal L (with_sequence s q) then more
+    sheet_refuses more =
+        let p = number_positive e in
+        let f = A.says in
+        let here : input_refusal L (with_sequence s q) ≡ number e = sequence_parted L s q ∙ (then_refused (sheet_refusal L s) _ (λ z. omega arith) ∙ sym f) in
+        sym (ap (λ r. r then more) here ∙ then_refused (number e) more (λ z. omega arith))
 
-  pub sheet_says : (a.refusal ≡ 0 → ⊥) → a.refusal ≡ call_refusal L (call.test s q)
-  sheet_says ne = sheet_refuses ne (first_refusal (question9 s q ∷ [])) ∙ sym (test_parted L s q)
+    pub sheet_says : number e ≡ call_refusal L (call.test s q)
+    sheet_says = sheet_refuses (first_refusal (question9 s q ∷ [])) ∙ sym (test_parted L s q)
 
-  module _ (z : a.refusal ≡ 0) where
+  module _ (a : SheetNumbers) (A : SheetChecked L s es cs ss (Ok a)) where
     -- Behind the sheet the entries decide.
     pub entries_decide : input_refusal L (with_sequence s q) ≡ entries_refusal L a.atoms q
     unfolding entries_refusal
     entries_decide =
         sequence_parted L s q
-        ∙ (then_zero (sheet_refusal L s) _ (sym A.says ∙ z) ∙ ap (λ n. ask (sequence_fits L n q) 8 then question16 L q) (sym (A.accepted z).bytes.atoms))
+        ∙ (then_zero (sheet_refusal L s) _ (sym A.says) ∙ ap (λ n. ask (sequence_fits L n q) 8 then question16 L q) (sym A.value.accepted.bytes.atoms))
 
-    module _ (r : ℕ) (Q : SequenceChecked L a.atoms es ss q r) where
-      pub sequence_says : r ≡ call_refusal L (call.test s q)
-      unfolding first_refusal
-      sequence_says =
-          Q.says (program s) (sheet_graph L s es cs ss a A z)
-          ∙ (ap (λ k. k then question9 s q) (sym entries_decide)
-          ∙ sym (test_parted L s q ∙ ap (λ k. input_refusal L (with_sequence s q) then k) (then_none (question9 s q))))
+    pub sequence_says : (r : Result (Unit {0}) Refusal) → SequenceChecked L a.atoms es ss q r → refusal_of r ≡ call_refusal L (call.test s q)
+    unfolding first_refusal
+    sequence_says r Q =
+        Q.says (program s) (sheet_graph L s es cs ss a A.value)
+        ∙ (ap (λ k. k then question9 s q) (sym entries_decide)
+        ∙ sym (test_parted L s q ∙ ap (λ k. input_refusal L (with_sequence s q) then k) (then_none (question9 s q))))
 
-      pub sequence_formed : r ≡ 0 → sequence_fits L (program s).atoms q ≡ true
-      sequence_formed y =
-          let given = (then_passed (input_refusal L (with_sequence s q)) _ (sym (test_parted L s q) ∙ (sym sequence_says ∙ y))).0 in
-          let behind = (then_passed (sheet_refusal L s) _ (sym (sequence_parted L s q) ∙ given)).1 in
-          (asked_yes (sequence_fits L (program s).atoms q) 8 (question16 L q) (λ e. omega arith) behind).0
+    pub sequence_formed : SequenceChecked L a.atoms es ss q (Ok tt) → sequence_fits L (program s).atoms q ≡ true
+    sequence_formed Q =
+        let given = (then_passed (input_refusal L (with_sequence s q)) _ (sym (test_parted L s q) ∙ sym (sequence_says (Ok tt) Q))).0 in
+        let behind = (then_passed (sheet_refusal L s) _ (sym (sequence_parted L s q) ∙ given)).1 in
+        (asked_yes (sequence_fits L (program s).atoms q) 8 (question16 L q) (λ e. omega arith) behind).0

@@ -1,24 +1,25 @@
 // The questions about a sequence.
 #![tactic(auto)]
 
-ghost use Rattle.std.specs.Prelude.{◌≡◌, ◌≤◌, length};
+ghost use Rattle.std.specs.Prelude.{◌≤◌, length};
 ghost use Rattle.chains.specs.inner.Components.{Small};
-ghost use Rattle.sequence_check.specs.inner.Checked.{entries_refusal, SequenceChecked};
+ghost use Rattle.sequence_check.specs.inner.Checked.{EntriesChecked, SequenceChecked};
 
 use chains::passes;
+use refusals::Refusal;
 use sheet::{Limits, sequence_fits};
 
 // The questions about the entries of a sequence over n atoms: 8, then 16.
-pub fn check_entries(limits: Limits, n: usize, q: &[u8]) -> u32
-    ensures { result ≡ entries_refusal limits n q.now }
+pub fn check_entries(limits: Limits, n: usize, q: &[u8]) -> Result<(), Refusal>
+    ensures { EntriesChecked limits n q.now result }
 {
     if !sequence_fits(limits, n, q) {
-        return 8;
+        return Err(Refusal::Sequence);
     }
     if limits.taken.entries < q.len() - 3 {
-        return 16;
+        return Err(Refusal::Long);
     }
-    0
+    Ok(())
 }
 
 // The questions about a sequence, of a program of n atoms with its edges and the sets of its components: 8, 16, then 9. The table is for
@@ -30,16 +31,13 @@ pub fn check_sequence(
     sets: &[u64; 64],
     q: &[u8],
     table: &mut [u64],
-) -> u32
+) -> Result<(), Refusal>
     requires { (n ≤ 64) × Small n sets.now (length table.old) }
     ensures { SequenceChecked limits n edges.now sets.now q.now result }
 {
-    let refusal = check_entries(limits, n, q);
-    if refusal != 0 {
-        return refusal;
-    }
+    check_entries(limits, n, q)?;
     if !passes(table, n, edges, sets, q) {
-        return 9;
+        return Err(Refusal::Chain);
     }
-    0
+    Ok(())
 }

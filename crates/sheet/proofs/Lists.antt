@@ -7,11 +7,10 @@ use native.Mathlib.Numerals.{add-one}
 use native.Mathlib.Omega.{arith}
 use borrow.Author.Tests.{ne_eqb, lt-ltb, le-ltb, le-leb, lt-leb}
 use lib.Dec.{eqb, ltb, leb}
-use lib.ListN.{length, drop, drop_of_length-le}
+use lib.ListN.{get_or, length, drop, drop_of_length-le}
 use lib.Seq.{drop-cons}
 use Rattle.lists.specs.Lists.{all, below}
 use Rattle.lists.proofs.Bools.{by_bool}
-use Rattle.bits.specs.inner.Sets.{ByteAt}
 use Rattle.bits.proofs.Rising.{climb}
 use Rattle.sheet.specs.Format.{kind_fits, rising, list_fits}
 
@@ -53,17 +52,17 @@ module _ (n : ℕ) (l : List ℕ) where
   pub climbing_start : Climbing n l 0 0
   climbing_start = record { same = climb_is n l }
 
-  at_element : (i low a : ℕ) → Climbing n l i low → i < length l → ByteAt l i a → (leb low a && (ltb a n && climb (suc a) n (drop (suc i) l))) ≡ list_fits n l
+  at_element : (i low a : ℕ) → Climbing n l i low → i < length l → a ≡ get_or l i 0 → (leb low a && (ltb a n && climb (suc a) n (drop (suc i) l))) ≡ list_fits n l
   unfolding climb
-  at_element i low a C h B = rw B.is (rw (drop-cons l i 0 h) at C.same)
+  at_element i low a C h B = rw B (rw (drop-cons l i 0 h) at C.same)
 
-  pub climbing_below : (i low a : ℕ) → Climbing n l i low → i < length l → ByteAt l i a → a < low → false ≡ list_fits n l
+  pub climbing_below : (i low a : ℕ) → Climbing n l i low → i < length l → a ≡ get_or l i 0 → a < low → false ≡ list_fits n l
   climbing_below i low a C h B k = rw (lt-leb low a k) at (at_element i low a C h B)
 
-  pub climbing_above : (i low a : ℕ) → Climbing n l i low → i < length l → ByteAt l i a → low ≤ a → n ≤ a → false ≡ list_fits n l
+  pub climbing_above : (i low a : ℕ) → Climbing n l i low → i < length l → a ≡ get_or l i 0 → low ≤ a → n ≤ a → false ≡ list_fits n l
   climbing_above i low a C h B k m = rw (le-leb low a k, le-ltb a n m) at (at_element i low a C h B)
 
-  pub climbing_turn : (i low a : ℕ) → Climbing n l i low → i < length l → ByteAt l i a → low ≤ a → a < n → Climbing n l (i + 1) (a + 1)
+  pub climbing_turn : (i low a : ℕ) → Climbing n l i low → i < length l → a ≡ get_or l i 0 → low ≤ a → a < n → Climbing n l (i + 1) (a + 1)
   climbing_turn i low a C h B k m = rw (add-one i, add-one a) record { same = rw (le-leb low a k, lt-ltb a n m) at (at_element i low a C h B) }
 
   pub climbing_end : (i low : ℕ) → Climbing n l i low → length l ≤ i → true ≡ list_fits n l

@@ -2,7 +2,7 @@
 use mathlib.Core.Bool.{Bool, true, false}
 use mathlib.Core.List.{List, [], ◌∷◌, ◌++◌}
 use mathlib.Core.Path.{◌≡◌, refl, sym, ◌∙◌, ap}
-use Prim.Native.Nat.{ℕ}
+use Prim.Native.Nat.{ℕ, ◌<◌}
 use native.Mathlib.Omega.{arith}
 use borrow.Author.Tests.{eqb-true, eqb-false, eq-eqb, ne_eqb}
 use lib.Dec.{eqb}
@@ -36,6 +36,11 @@ pub ask_passed : (b : Bool) (q : ℕ) → (q ≡ 0 → ⊥) → ask b q ≡ 0 �
 unfolding ask
 ask_passed true q h e = refl
 ask_passed false q h e = absurd (h e)
+
+pub ask_refused : (b : Bool) (q k : ℕ) → k ≡ ask b q → 0 < k → b ≡ false
+unfolding ask
+ask_refused true q k e l = absurd (omega arith)
+ask_refused false q k e l = refl
 
 pub then_passed : (q r : ℕ) → q then r ≡ 0 → (q ≡ 0) × (r ≡ 0)
 unfolding ◌then◌

@@ -2,13 +2,13 @@
 use mathlib.Core.Bool.{Bool, true, false, ◌&&◌}
 use mathlib.Core.List.{List}
 use mathlib.Core.Path.{◌≡◌, refl, sym, ◌∙◌, ap}
-use Prim.Native.Nat.{ℕ, suc, ◌+◌, ◌*◌, ◌≤◌, ◌<◌}
+use Prim.Native.Nat.{ℕ, ◌+◌, ◌-◌, ◌*◌, ◌≤◌, ◌<◌}
 use native.Mathlib.Numerals.{add-one}
 use native.Mathlib.Omega.{arith}
 use borrow.Author.Tests.{eqb-true, eq-eqb, leb-true, le-leb, le-ltb, lt-ltb}
 use lib.Dec.{eqb, leb, ltb}
-use lib.ListN.{length, drop, drop_of_length-le}
-use lib.Seq.{drop-cons}
+use lib.ListN.{length, length-drop, get_or, take, drop, drop_of_length-le}
+use lib.Seq.{drop-cons, take_all}
 use Rattle.lists.specs.Lists.{all, below}
 use Rattle.lists.proofs.Bools.{is_false, and_intro, and_left, and_right, bool_ext}
 use Rattle.bits.specs.inner.Sets.{ByteAt}
@@ -17,26 +17,31 @@ use Rattle.sheet.specs.Sequence.{entries_field, entries, sequence_fits}
 use Rattle.sheet.specs.declared.Limits.{Limits}
 
 -- The entries before i are below n.
-pub record Fitting (n : ℕ) (q : List ℕ) (i : ℕ) : Type 0 where
-  pub same : below n (drop i q) ≡ below n (entries q)
+pub record Fitting (n : ℕ) (l : List ℕ) (i : ℕ) : Type 0 where
+  pub same : below n (drop i l) ≡ below n l
 
-module _ (n : ℕ) (q : List ℕ) where
-  pub fitting_start : Fitting n q 3
+module _ (n : ℕ) (l : List ℕ) where
+  pub fitting_start : Fitting n l 0
   fitting_start = record { same = refl }
 
-  next : (i x : ℕ) → i < length q → ByteAt q i x → below n (drop i q) ≡ (ltb x n && below n (drop (i + 1) q))
+  next : (i : ℕ) → i < length l → below n (drop i l) ≡ (ltb (get_or l i 0) n && below n (drop (i + 1) l))
   unfolding below all
-  next i x l B = ap (below n) (drop-cons q i 0 l) ∙ (ap (λ y. ltb y n && below n (drop (suc i) q)) (sym B.is) ∙ ap (λ j. ltb x n && below n (drop j q)) (sym (add-one i)))
+  next i h = ap (below n) (drop-cons l i 0 h) ∙ ap (λ j. ltb (get_or l i 0) n && below n (drop j l)) (sym (add-one i))
 
-  pub fitting_fails : (i x : ℕ) → Fitting n q i → i < length q → ByteAt q i x → n ≤ x → false ≡ below n (entries q)
-  fitting_fails i x F l B h = sym (ap (λ (b : Bool). b && below n (drop (i + 1) q)) (le-ltb x n h)) ∙ (sym (next i x l B) ∙ F.same)
+  module _ (i : ℕ) (F : Fitting n l i) (h : i < length l) where
+    pub fitting_fails : n ≤ get_or l i 0 → false ≡ below n l
+    fitting_fails k = sym (ap (λ (b : Bool). b && below n (drop (i + 1) l)) (le-ltb (get_or l i 0) n k)) ∙ (sym (next i h) ∙ F.same)
 
-  pub fitting_turn : (i x : ℕ) → Fitting n q i → i < length q → ByteAt q i x → x < n → Fitting n q (i + 1)
-  fitting_turn i x F l B h = record { same = sym (ap (λ (b : Bool). b && below n (drop (i + 1) q)) (lt-ltb x n h)) ∙ (sym (next i x l B) ∙ F.same) }
+    pub fitting_turn : get_or l i 0 < n → Fitting n l (i + 1)
+    fitting_turn k = record { same = sym (ap (λ (b : Bool). b && below n (drop (i + 1) l)) (lt-ltb (get_or l i 0) n k)) ∙ (sym (next i h) ∙ F.same) }
 
-  pub fitting_end : (i : ℕ) → Fitting n q i → length q ≤ i → true ≡ below n (entries q)
+  pub fitting_end : (i : ℕ) → Fitting n l i → length l ≤ i → true ≡ below n l
   unfolding below all
-  fitting_end i F l = sym (ap (below n) (drop_of_length-le q l)) ∙ F.same
+  fitting_end i F k = sym (ap (below n) (drop_of_length-le l k)) ∙ F.same
+
+-- The slice behind the header is the entries.
+pub slice_entries : (q : List ℕ) → take (length q - 3) (drop 3 q) ≡ entries q
+slice_entries q = let k = length-drop 3 q in take_all (length q - 3) (drop 3 q) (omega arith)
 
 -- What a sequence that passes question 8 is known by.
 pub record Fits (L : Limits) (n : ℕ) (q : List ℕ) : Type 0 where

@@ -32,16 +32,12 @@ pub struct Limits {
 fn kind_fits(kind: usize, head: usize, n: usize) -> bool
     ensures { result ≡ kind_fits n kind head }
 {
-    if kind == 0 {
-        return head < n;
+    match kind {
+        0 => head < n,
+        1 => head == 0,
+        2 => head < n,
+        _ => false,
     }
-    if kind == 1 {
-        return head == 0;
-    }
-    if kind == 2 {
-        return head < n;
-    }
-    false
 }
 
 // Question 4, of the record at an offset.
@@ -90,12 +86,11 @@ fn entries_fit(q: &[u8], n: usize) -> bool
     requires { 3 ≤ length q.now }
     ensures { result ≡ below n (entries q.now) }
 {
-    let mut i = 3;
-    while i < q.len() {
-        if n <= byte_at(q, i) {
+    let entries = &q[3..];
+    for &a in entries {
+        if n <= usize::from(a) {
             return false;
         }
-        i += 1;
     }
     true
 }

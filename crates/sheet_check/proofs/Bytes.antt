@@ -5,6 +5,11 @@ use Prim.Native.Nat.{ℕ, ◌+◌, ◌^◌, ◌≤◌, ◌<◌}
 use native.Mathlib.Omega.{arith}
 use borrow.Author.Tests.{le-leb, lt-leb}
 use lib.ListN.{length}
+use Rattle.std.proofs.Common.{Ok, Err}
+use Rattle.refusals.specs.declared.Refusal.{Refusal}
+use Rattle.refusals.specs.declared.Refusal.TheVariants as refusal
+use Rattle.refusals.specs.Numbers.{number}
+use Rattle.refusals.proofs.Asking.{number_positive, asked_value, asked_refusal}
 use Rattle.sheet.specs.Questions.{ask}
 use Rattle.sheet.specs.Format.{atoms_byte}
 use Rattle.sheet.specs.inner.Walk.{form_refusal}
@@ -19,75 +24,73 @@ use Rattle.operations.specs.Requirements.{Supported}
 use Rattle.operations.specs.Questions.{question13}
 use Rattle.operations.specs.inner.Refusals.{bytes_refusal}
 use Rattle.operations.proofs.Questions.{bytes_parted}
-use Rattle.sheet_check.specs.inner.Checked.{BytesAccepted, RecordsKept, BytesChecked, Expands}
+use Rattle.sheet_check.specs.inner.Checked.{BytesAccepted, RecordsKept, BytesPassed, BytesChecked, Expands}
 use Rattle.sheet_check.specs.declared.SheetNumbers.{SheetNumbers}
 
-module _ (L : Limits) (s : List ℕ) (S : Supported L) (h : Header) (H : HeaderRead L s h) (t : List ℕ) where
-  refused_here : (r : SheetNumbers) (q : ℕ) → q ≡ bytes_refusal L s → (q ≡ 0 → ⊥) → r.refusal ≡ q → BytesChecked L s t r
-  refused_here r q f ne e = record { says = e ∙ f; accepted = λ z. absurd (ne (sym e ∙ z)); kept = λ z. absurd (ne (sym e ∙ z)) }
+-- A refusal by questions 1 to 6 is that of the bytes.
+module _ (L : Limits) (s t : List ℕ) where
+  refused_by : (e : Refusal) → number e ≡ form_refusal L s → BytesChecked L s t (Err e)
+  refused_by e f =
+      let p = number_positive e in
+      asked_refusal _ (BytesPassed L s t) e (f ∙ sym (bytes_parted L s ∙ then_refused (form_refusal L s) _ (λ z. omega arith)))
 
-  refused_by : (r : SheetNumbers) (q : ℕ) → q ≡ form_refusal L s → (q ≡ 0 → ⊥) → r.refusal ≡ q → BytesChecked L s t r
-  refused_by r q f ne e = refused_here r q (f ∙ sym (bytes_parted L s ∙ then_refused (form_refusal L s) _ (λ z. ne (f ∙ z)))) ne e
+  pub bytes_header : (e : Refusal) → HeaderRead L s (Err e) → BytesChecked L s t (Err e)
+  bytes_header e H = refused_by e H.refused
 
-  pub bytes_header : (r : SheetNumbers) → (h.refusal ≡ 0 → ⊥) → r.refusal ≡ h.refusal → BytesChecked L s t r
-  bytes_header r ne e = refused_by r h.refusal (H.refused ne) ne e
+-- Behind a header that passes.
+module _ (L : Limits) (s : List ℕ) (S : Supported L) (h : Header) (H : HeaderRead L s (Ok h)) where
+  pub bytes_long : 5 ≤ length s
+  bytes_long = H.passed.long
 
-  module _ (z : h.refusal ≡ 0) where
-    pub bytes_long : 5 ≤ length s
-    bytes_long = (H.passed z).long
+  pub bytes_atoms : h.atoms ≤ 64
+  bytes_atoms = let l = H.passed.low in let k = S.atoms in omega arith
 
-    pub bytes_atoms : h.atoms ≤ 64
-    bytes_atoms = let l = (H.passed z).low in let k = S.atoms in omega arith
+  pub bytes_count : h.records ≤ 128
+  bytes_count = let l = H.passed.few in let k = S.records in omega arith
 
-    pub bytes_count : h.records ≤ 128
-    bytes_count = let l = (H.passed z).few in let k = S.records in omega arith
+  module _ (t : List ℕ) where
+    pub bytes_records : (e : Refusal) → RecordsRead h.atoms h.records s t (Err e) → BytesChecked L s t (Err e)
+    bytes_records e Q = refused_by L s t e (Q.asked.says ∙ sym H.passed.rest)
 
-    module _ (q : ℕ) (Q : RecordsRead h.atoms h.records s t q) where
-      read_by : q ≡ form_refusal L s
-      read_by = Q.says ∙ sym (H.passed z).rest
+    module _ (Q : RecordsRead h.atoms h.records s t (Ok tt)) (c : ℕ) (C : ChoicesIn t h.records c) where
+      pub bytes_sum : h.atoms + c < 2 ^ 64
+      bytes_sum = let f = C.few in let a = bytes_atoms in let m = bytes_count in omega arith
 
-      pub bytes_records : (r : SheetNumbers) → (q ≡ 0 → ⊥) → r.refusal ≡ q → BytesChecked L s t r
-      bytes_records r ne e = refused_by r q read_by ne e
+      passed : form_refusal L s ≡ 0
+      passed = H.passed.rest ∙ sym Q.asked.says
 
-      module _ (y : q ≡ 0) (c : ℕ) (C : ChoicesIn t h.records c) where
-        pub bytes_sum : h.atoms + c < 2 ^ 64
-        bytes_sum = let f = C.few in let a = bytes_atoms in let m = bytes_count in omega arith
+      same_records : records_in (held h.records t) ≡ records s
+      unfolding records
+      same_records = Q.asked.value.stored ∙ ap (λ m. records_from m s 5) H.passed.records
 
-        passed : form_refusal L s ≡ 0
-        passed = sym read_by ∙ y
+      numbered : h.atoms + c ≡ atoms_byte s + choices (records s)
+      numbered = ap₂ (λ n k. n + k) H.passed.atoms (C.is ∙ ap choices same_records)
 
-        same_records : records_in (held h.records t) ≡ records s
-        unfolding records
-        same_records = Q.stored y ∙ ap (λ m. records_from m s 5) (H.passed z).records
+      thirteenth : bytes_refusal L s ≡ question13 L s
+      thirteenth = bytes_parted L s ∙ then_zero (form_refusal L s) _ passed
 
-        numbered : h.atoms + c ≡ atoms_byte s + choices (records s)
-        numbered = ap₂ (λ n k. n + k) (H.passed z).atoms (C.is ∙ ap choices same_records)
+      pub bytes_crowded : L.atoms < h.atoms + c → BytesChecked L s t (Err refusal.Fresh)
+      unfolding ask
+      bytes_crowded l =
+          let k = numbered in
+          asked_refusal _ (BytesPassed L s t) refusal.Fresh (sym (thirteenth ∙ rw (lt-leb (atoms_byte s + choices (records s)) L.atoms (omega arith)) refl))
 
-        thirteenth : bytes_refusal L s ≡ question13 L s
-        thirteenth = bytes_parted L s ∙ then_zero (form_refusal L s) _ passed
-
-        pub bytes_crowded : (r : SheetNumbers) → L.atoms < h.atoms + c → r.refusal ≡ 13 → BytesChecked L s t r
-        unfolding ask
-        bytes_crowded r l e =
-            let k = numbered in
-            refused_here r 13 (sym (thirteenth ∙ rw (lt-leb (atoms_byte s + choices (records s)) L.atoms (omega arith)) refl)) (λ e. omega arith) e
-
-        pub bytes_fine : h.atoms + c ≤ L.atoms → BytesChecked L s t (record { refusal = 0; written = h.atoms; records = h.records; atoms = h.atoms + c })
-        unfolding ask program program_of
-        bytes_fine l =
-            let k = numbered in
-            let most = S.atoms in
-            record {
-              says = sym (thirteenth ∙ rw (le-leb (atoms_byte s + choices (records s)) L.atoms (omega arith)) refl);
-              accepted = λ _. record {
-                form = passed;
-                number = (H.passed z).records;
-                written = (H.passed z).atoms;
-                atoms = k;
-                low = omega arith;
-              };
-              kept = λ _. record { list = same_records; exact = Q.exact y; long = Q.long };
-            }
+      pub bytes_fine : h.atoms + c ≤ L.atoms → BytesChecked L s t (Ok (record { written = h.atoms; records = h.records; atoms = h.atoms + c }))
+      unfolding ask program program_of
+      bytes_fine l =
+          let k = numbered in
+          let most = S.atoms in
+          asked_value _ (BytesPassed L s t) _ (sym (thirteenth ∙ rw (le-leb (atoms_byte s + choices (records s)) L.atoms (omega arith)) refl))
+          record {
+            accepted = record {
+              form = passed;
+              number = H.passed.records;
+              written = H.passed.atoms;
+              atoms = k;
+              low = omega arith;
+            };
+            kept = record { list = same_records; exact = Q.asked.value.exact; long = Q.long };
+          }
 
 -- The records of a sheet that is not refused so far can be made its program.
 module _ (L : Limits) (s : List ℕ) (S : Supported L) (t : List ℕ) (r : SheetNumbers) (A : BytesAccepted L s r) (K : RecordsKept s t r) where

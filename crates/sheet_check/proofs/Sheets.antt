@@ -12,6 +12,10 @@ use Rattle.lists.proofs.Bools.{by_bool}
 use Rattle.lists.proofs.Members.{range_in}
 use Rattle.unfolding.specs.Default.{members}
 use Rattle.bits.specs.inner.Visited.{listed}
+use Rattle.std.proofs.Common.{Result, Ok, Err}
+use Rattle.refusals.specs.declared.Refusal.{Refusal}
+use Rattle.refusals.specs.Numbers.{number}
+use Rattle.refusals.proofs.Asking.{number_positive, asked_value, asked_refusal}
 use Rattle.sheet.specs.Sheet.{program_of, program}
 use Rattle.sheet.specs.declared.Limits.{Limits}
 use Rattle.sheet.proofs.Questions.{then_refused, then_zero}
@@ -25,52 +29,52 @@ use Rattle.choice.proofs.Sheets.{program_formed}
 use Rattle.operations.specs.Requirements.{Supported}
 use Rattle.operations.specs.inner.Refusals.{bytes_refusal, graph_refusal, sheet_refusal}
 use Rattle.operations.proofs.Questions.{sheet_parted, sheet_passed}
-use Rattle.sheet_check.specs.inner.Checked.{BytesChecked, Expands, GraphChecked, SheetAccepted, SheetChecked, RecordsChecked}
+use Rattle.sheet_check.specs.inner.Checked.{BytesChecked, Expands, GraphChecked, SheetAccepted, SheetPassed, SheetChecked, RecordsPassed, RecordsChecked}
 use Rattle.sheet_check.specs.declared.SheetNumbers.{SheetNumbers}
 use Rattle.sheet_check.proofs.Bytes.{kept_program, kept_expands}
 
-module _ (L : Limits) (s : List ℕ) (S : Supported L) (t : List ℕ) (r : SheetNumbers) (B : BytesChecked L s t r) where
-  refused_here : (es cs ss : List ℕ) (x : SheetNumbers) → x.refusal ≡ sheet_refusal L s → (x.refusal ≡ 0 → ⊥) → RecordsChecked L s t es cs ss x
-  refused_here es cs ss x e ne =
-      record { asked = record { says = e; accepted = λ z. absurd (ne z); edged = λ z. absurd (ne z) }; kept = λ z. absurd (ne z) }
+module _ (L : Limits) (s t : List ℕ) where
+  pub checked_bytes : (es cs ss : List ℕ) (e : Refusal) → BytesChecked L s t (Err e) → RecordsChecked L s t es cs ss (Err e)
+  checked_bytes es cs ss e B =
+      let p = number_positive e in
+      let f = B.says in
+      asked_refusal _ (RecordsPassed L s t es cs ss) e (f ∙ sym (sheet_parted L s ∙ then_refused (bytes_refusal L s) _ (λ z. omega arith)))
 
-  pub checked_bytes : (es cs ss : List ℕ) → (r.refusal ≡ 0 → ⊥) → RecordsChecked L s t es cs ss r
-  checked_bytes es cs ss ne =
-      refused_here es cs ss r (B.says ∙ sym (sheet_parted L s ∙ then_refused (bytes_refusal L s) _ (λ z. ne (B.says ∙ z)))) ne
-
-  module _ (z : r.refusal ≡ 0) where
+  module _ (S : Supported L) (r : SheetNumbers) (B : BytesChecked L s t (Ok r)) where
     pub checked_expands : Expands (held r.records t) r
-    checked_expands = kept_expands L s S t r (B.accepted z) (B.kept z)
+    checked_expands = kept_expands L s S t r B.value.accepted B.value.kept
 
     module _ (es cs ss : List ℕ) (q : ℕ) (G : GraphChecked L r.written (records_in (held r.records t)) es cs ss q) where
       same : program_of r.written (records_in (held r.records t)) ≡ program s
-      same = kept_program L s S t r (B.accepted z) (B.kept z)
+      same = kept_program L s S t r B.value.accepted B.value.kept
 
       says : q ≡ sheet_refusal L s
-      says = G.says ∙ (ap (graph_refusal L) same ∙ sym (sheet_parted L s ∙ then_zero (bytes_refusal L s) _ (sym B.says ∙ z)))
+      says = G.says ∙ (ap (graph_refusal L) same ∙ sym (sheet_parted L s ∙ then_zero (bytes_refusal L s) _ (sym B.says)))
 
-      pub checked_graph : (x : SheetNumbers) → (q ≡ 0 → ⊥) → x.refusal ≡ q → RecordsChecked L s t es cs ss x
-      checked_graph x ne e = refused_here es cs ss x (e ∙ says) (λ z. ne (sym e ∙ z))
+      pub checked_graph : (e : Refusal) → q ≡ number e → RecordsChecked L s t es cs ss (Err e)
+      checked_graph e f = asked_refusal _ (RecordsPassed L s t es cs ss) e (sym f ∙ says)
 
-      fine : q ≡ 0 → RecordsChecked L s t es cs ss r
-      fine y =
+      pub checked_fine : q ≡ 0 → RecordsChecked L s t es cs ss (Ok r)
+      checked_fine y =
           let P = sheet_passed L s (sym says ∙ y) in
+          asked_value _ (RecordsPassed L s t es cs ss) r (sym y ∙ says)
           record {
-            asked = record {
-              says = z ∙ (sym y ∙ says);
-              accepted = λ _. record {
-                bytes = B.accepted z;
+            sheet = record {
+              accepted = record {
+                bytes = B.value.accepted;
                 graph = subst (λ P. ComponentsOf P cs ss) same G.graph;
                 limit = P.components;
                 taken = P.taken_components;
               };
-              edged = λ _. subst (λ P. EdgesOf P es) same G.edged;
+              edged = subst (λ P. EdgesOf P es) same G.edged;
             };
-            kept = B.kept;
+            kept = B.value.kept;
           }
 
-      pub checked_fine : (x : SheetNumbers) → q ≡ 0 → x ≡ r → RecordsChecked L s t es cs ss x
-      checked_fine x y e = rw e (fine y)
+  -- The records are not needed.
+  pub checked_sheet : (es cs ss : List ℕ) (r : Result SheetNumbers Refusal) → RecordsChecked L s t es cs ss r → SheetChecked L s es cs ss r
+  checked_sheet es cs ss (Ok r) R = record { says = R.says; value = R.value.sheet }
+  checked_sheet es cs ss (Err e) R = record { says = R.says; value = tt }
 
 -- A sheet that is accepted.
 module _ (L : Limits) (s cs ss : List ℕ) (r : SheetNumbers) (A : SheetAccepted L s cs ss r) where
@@ -116,12 +120,12 @@ module _ (L : Limits) (s cs ss : List ℕ) (r : SheetNumbers) (A : SheetAccepted
       }
 
 -- Behind the questions about a sheet.
-module _ (L : Limits) (s es cs ss : List ℕ) (a : SheetNumbers) (A : SheetChecked L s es cs ss a) (z : a.refusal ≡ 0) where
+module _ (L : Limits) (s es cs ss : List ℕ) (a : SheetNumbers) (A : SheetPassed L s es cs ss a) where
   pub sheet_low : a.atoms ≤ 64
-  sheet_low = (A.accepted z).bytes.low
+  sheet_low = A.accepted.bytes.low
 
   pub sheet_small : Supported L → (rows : ℕ) → 2 ^ L.taken.component ≤ rows → Small a.atoms ss rows
-  sheet_small = components_small L s cs ss a (A.accepted z)
+  sheet_small = components_small L s cs ss a A.accepted
 
   pub sheet_graph : Graph (program s) a.atoms es ss
-  sheet_graph = graph_here L s cs ss a (A.accepted z) es (A.edged z)
+  sheet_graph = graph_here L s cs ss a A.accepted es A.edged

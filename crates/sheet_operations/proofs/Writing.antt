@@ -10,6 +10,9 @@ use Rattle.lists.proofs.Members.{map_cong, flat_map_cong, range_out}
 use Rattle.lists.proofs.Nodup.{length_range}
 use Rattle.unfolding.specs.Graph.{component}
 use Rattle.unfolding.specs.Default.{block, default_sequence}
+use Rattle.std.proofs.Common.{Ok, Err}
+use Rattle.refusals.specs.declared.Refusal.{Refusal}
+use Rattle.refusals.specs.Numbers.{number}
 use Rattle.sheet.specs.Questions.{◌then◌, first_refusal}
 use Rattle.sheet.specs.Sheet.{program}
 use Rattle.sheet.specs.declared.Limits.{Limits}
@@ -27,26 +30,29 @@ use Rattle.operations.proofs.Writing.{room_refused, room_full, room_done}
 use Rattle.operations.proofs.Default.{default_length}
 use Rattle.sheet_check.specs.inner.Checked.{SheetAccepted, SheetChecked}
 use Rattle.sheet_check.specs.declared.SheetNumbers.{SheetNumbers}
-use Rattle.sheet_check.proofs.Sheets.{set_members}
+use Rattle.sheet_check.proofs.Sheets.{sheet_low, set_members}
 
-module _ (L : Limits) (s es cs ss : List ℕ) (r : SheetNumbers) (A : SheetChecked L s es cs ss r) where
-  asked : r.refusal ≡ input_refusal L (sheet s) then first_refusal []
+module _ (L : Limits) (s es cs ss : List ℕ) (e : Refusal) (A : SheetChecked L s es cs ss (Err e)) where
+  asked : number e ≡ input_refusal L (sheet s) then first_refusal []
   asked = A.says ∙ sym (nothing_behind L s)
 
-  pub components_refused : (old : List ℕ) → (r.refusal ≡ 0 → ⊥) → Promised L (call.components s old) (refused r.refusal) (naturals old)
+  pub components_refused : (old : List ℕ) → Promised L (call.components s old) (refused (number e)) (naturals old)
   unfolding describe
-  components_refused old ne = room_refused L (call.components s old) naturals (sheet s) [] (components_output s) [] old refl r.refusal asked ne
+  components_refused old = room_refused L (call.components s old) naturals (sheet s) [] (components_output s) [] old refl e asked
 
-  pub default_refused : (old : List ℕ) → (r.refusal ≡ 0 → ⊥) → Promised L (call.default s old) (refused r.refusal) (naturals old)
+  pub default_refused : (old : List ℕ) → Promised L (call.default s old) (refused (number e)) (naturals old)
   unfolding describe
-  default_refused old ne = room_refused L (call.default s old) naturals (sheet s) [] (default_output s) [] old refl r.refusal asked ne
+  default_refused old = room_refused L (call.default s old) naturals (sheet s) [] (default_output s) [] old refl e asked
 
-module _ (L : Limits) (s es cs ss : List ℕ) (r : SheetNumbers) (A : SheetChecked L s es cs ss r) (z : r.refusal ≡ 0) where
+module _ (L : Limits) (s es cs ss : List ℕ) (r : SheetNumbers) (A : SheetChecked L s es cs ss (Ok r)) where
   passed : input_refusal L (sheet s) then first_refusal [] ≡ 0
-  passed = sym (asked L s es cs ss r A) ∙ z
+  passed = nothing_behind L s ∙ sym A.says
+
+  pub atoms_low : r.atoms ≤ 64
+  atoms_low = sheet_low L s es cs ss r A.value
 
   K : SheetAccepted L s cs ss r
-  K = A.accepted z
+  K = A.value.accepted
 
   -- The names and blocks of the table are those of the sheet's components.
   bytes : name_bytes cs r.atoms ≡ components_output s

@@ -10,46 +10,40 @@ ghost use Rattle.operations.specs.Calls as call;
 ghost use Rattle.operations.specs.Requirements.{Supported};
 
 use component_output::{blocks_length, put_blocks, put_names};
-use operations::{ReadAnswer, WriteAnswer};
+use reader::Header;
+use refusals::Refusal;
 use sheet::Limits;
 use sheet_check::check_sheet;
 use writer::put;
 
 // Reading a sheet.
-pub fn read(limits: Limits, s: &[u8]) -> ReadAnswer
+pub fn read(limits: Limits, s: &[u8]) -> Result<Header, Refusal>
     requires { Supported limits }
     ensures { Promised limits (call.read s.now) (from_read result) nothing }
 {
     let mut edges = [0u64; 64];
     let mut names = [0u8; 64];
     let mut sets = [0u64; 64];
-    let a = check_sheet(limits, s, &mut edges, &mut names, &mut sets);
-    let refusal = a.refusal;
-    if refusal != 0 {
-        return ReadAnswer::Refused(refusal);
-    }
-    ReadAnswer::Header(a.written, a.records)
+    let a = check_sheet(limits, s, &mut edges, &mut names, &mut sets)?;
+    Ok(Header {
+        atoms: a.written,
+        records: a.records,
+    })
 }
 
 // Finding components: for each atom one byte, the smallest atom of its component.
-pub fn components(limits: Limits, s: &[u8], out: &mut [u8]) -> WriteAnswer
+pub fn components(limits: Limits, s: &[u8], out: &mut [u8]) -> Result<usize, Refusal>
     requires { Supported limits }
     ensures { Promised limits (call.components s.now out.old) (from_write result) (naturals out.new) }
 {
     let mut edges = [0u64; 64];
     let mut names = [0u8; 64];
     let mut sets = [0u64; 64];
-    let a = check_sheet(limits, s, &mut edges, &mut names, &mut sets);
-    let refusal = a.refusal;
-    if refusal != 0 {
-        return WriteAnswer::Refused(refusal);
-    }
-    let n = a.atoms;
+    let n = check_sheet(limits, s, &mut edges, &mut names, &mut sets)?.atoms;
     if out.len() < n {
-        return WriteAnswer::Refused(10);
+        return Err(Refusal::Room);
     }
-    let length = put_names(out, 0, &names, n);
-    WriteAnswer::Length(length)
+    Ok(put_names(out, 0, &names, n))
 }
 
 // The header of a sequence of t entries.
@@ -63,24 +57,18 @@ fn put_header(out: &mut [u8], t: usize) -> usize
 }
 
 // The default sequence, header included.
-pub fn default_sequence(limits: Limits, s: &[u8], out: &mut [u8]) -> WriteAnswer
+pub fn default_sequence(limits: Limits, s: &[u8], out: &mut [u8]) -> Result<usize, Refusal>
     requires { Supported limits }
     ensures { Promised limits (call.default s.now out.old) (from_write result) (naturals out.new) }
 {
     let mut edges = [0u64; 64];
     let mut names = [0u8; 64];
     let mut sets = [0u64; 64];
-    let a = check_sheet(limits, s, &mut edges, &mut names, &mut sets);
-    let refusal = a.refusal;
-    if refusal != 0 {
-        return WriteAnswer::Refused(refusal);
-    }
-    let n = a.atoms;
+    let n = check_sheet(limits, s, &mut edges, &mut names, &mut sets)?.atoms;
     let t = blocks_length(&sets, n);
     if out.len() < t + 3 {
-        return WriteAnswer::Refused(10);
+        return Err(Refusal::Room);
     }
     let at = put_header(out, t);
-    let length = put_blocks(out, at, &sets, n);
-    WriteAnswer::Length(length)
+    Ok(put_blocks(out, at, &sets, n))
 }

@@ -1,12 +1,15 @@
--- Loops over a list, from its first element on, and those that write a text.
-use mathlib.Core.List.{List, [], ◌∷◌, ◌++◌}
-use mathlib.Core.Path.{◌≡◌, sym, ◌∙◌, ap}
-use Prim.Native.Nat.{ℕ, ◌+◌, ◌≤◌, ◌<◌}
+-- Loops over a list, from its first element on, and the copy of a text.
+use mathlib.Core.List.{List, [], ◌∷◌, append_assoc}
+use mathlib.Core.Path.{◌≡◌, refl, sym, ◌∙◌, ap}
+use Prim.Native.Nat.{ℕ, ◌+◌, ◌-◌, ◌≤◌, ◌<◌}
 use native.Mathlib.Numerals.{add-one}
-use lib.ListN.{length, get_or, drop, drop_of_length-le}
-use lib.Seq.{drop-cons}
 use native.Mathlib.Omega.{arith}
-use Rattle.writer.proofs.Writing.{Left, left_room}
+use borrow.Rule.Slice.PartMut.{put_mid}
+use lib.ListN.{length, get_or, take, drop, drop_of_length-le}
+use lib.Seq.{drop-cons}
+use Rattle.std.proofs.lemmas.List.Edits.{sets-eq, paste_all}
+use Rattle.std.proofs.lemmas.Slice.{put_mid-paste}
+use Rattle.writer.specs.inner.Wrote.{Wrote}
 
 module _ {A : Type 0} (l : List A) (i : ℕ) where
   pub left_cons : (d : A) → i < length l → drop i l ≡ get_or l i d ∷ drop (i + 1) l
@@ -15,10 +18,12 @@ module _ {A : Type 0} (l : List A) (i : ℕ) where
   pub text_end : length l ≤ i → drop i l ≡ []
   text_end h = drop_of_length-le l h
 
-pub text_next : (l : List ℕ) (i : ℕ) → i < length l → drop i l ≡ (get_or l i 0 ∷ []) ++ drop (i + 1) l
-text_next l i h = left_cons l i 0 h
-
-pub text_room : (old text cur : List ℕ) (at next i : ℕ) → Left old at text cur next (drop i text) → i < length text → at + length text ≤ length old → next < length cur
-text_room old text cur at next i L h room =
-    let r = left_room old at text cur (get_or text i 0 ∷ []) (drop i text) (drop (i + 1) text) next L (text_next text i h) room in
-    omega arith
+-- A text copied to a place where it has room.
+pub copied_wrote : (old text new : List ℕ) (at k : ℕ) → new ≡ text → k ≡ length text → at + length text ≤ length old
+    → Wrote old at text (put_mid at (at + k - at) old new) (at + k)
+copied_wrote old text new at k e n room =
+    record {
+      stored = put_mid-paste at (at + k - at) old new text (length text) e (omega arith) refl
+          ∙ (paste_all old at text (length text) refl ∙ (sym (append_assoc (take at old) text _) ∙ sym (sets-eq text old at room)));
+      moved = ap (λ i. at + i) n;
+    }

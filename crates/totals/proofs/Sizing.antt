@@ -5,8 +5,9 @@ use Prim.Native.Nat.{ℕ, ◌+◌, ◌-◌, ◌*◌, ◌^◌, ◌≤◌, ◌<◌
 use native.Mathlib.Omega.{arith}
 use borrow.Author.Tests.{eqb-true, eqb-false}
 use lib.Dec.{eqb}
-use lib.ListN.{length, length-append, get_or, set, length-set, replicate, length-replicate, get_or-replicate}
-use Rattle.lists.specs.Lists.{range}
+use native.Mathlib.Numerals.{add-one}
+use lib.Seq.{drop-cons}
+use lib.ListN.{length, length-append, get_or, drop, drop_of_length-le, set, length-set, replicate, length-replicate, get_or-replicate}
 use Rattle.lists.proofs.Bools.{by_bool}
 use Rattle.lists.proofs.Members.{range_left, range_over}
 use Rattle.bits.specs.inner.Sets.{Size}
@@ -15,7 +16,7 @@ use Rattle.bits.proofs.Visiting.{listed_few}
 use Rattle.program.specs.inner.Held.{table_rule, added_atom, body_of, bodies_at}
 use Rattle.program.specs.declared.TableRule.{TableRule}
 use Rattle.copies.specs.inner.Bodies.{negative_atoms, body_atoms, atom_count}
-use Rattle.copies.specs.inner.Kept.{Inside, ListedAt, firsts}
+use Rattle.copies.specs.inner.Kept.{Inside}
 use Rattle.copies.proofs.Tables.{stored}
 use Rattle.copies.proofs.Keeping.{added_few, atoms_append}
 use Rattle.totals.specs.inner.Totals.{atoms_at, SmallSizes, SizesOf, sum_at, ListedSum}
@@ -71,9 +72,6 @@ module _ (t p : List ℕ) where
             subst (λ x. x ≤ 129) (sym (stored sizes j k i index))
             (by_bool (eqb i j) (λ y. rw y (let f = atoms_few r in omega arith)) (λ z. rw z (S.so_far.small.low i h)))
 
-    pub sizing_end : rules ≤ j → SizesOf t p rules sizes
-    sizing_end l = record { is = λ i h. S.so_far.is i (omega arith); small = S.so_far.small }
-
   -- The sum of the sizes of some bodies.
   pub sum_atoms : (rules : ℕ) (sizes : List ℕ) → SizesOf t p rules sizes → (l : List ℕ) → ((i : ℕ) → Memᴰ i l → i < rules)
       → sum_at sizes l ≡ atom_count (map (λ i. body_of (table_rule t p i)) l)
@@ -86,34 +84,32 @@ module _ (t p : List ℕ) where
       omega arith
 
 -- The loop over the entries that are listed: with those that are left the sum is that of all.
-pub record Summing (sizes entries : List ℕ) (k sum j : ℕ) : Type 0 where
+pub record Summing (sizes listed : List ℕ) (sum j : ℕ) : Type 0 where
   pub small : sum ≤ 129 * j
-  pub within : j ≤ k
-  pub rest : sum + sum_at sizes (map (λ j. get_or entries j 0) (range j (k - j))) ≡ sum_at sizes (firsts entries k)
+  pub within : j ≤ length listed
+  pub rest : sum + sum_at sizes (drop j listed) ≡ sum_at sizes listed
 
-module _ (sizes entries : List ℕ) (k : ℕ) where
-  pub summing_start : Summing sizes entries k 0 0
-  summing_start = let e : k - 0 ≡ k = omega arith in record { small = omega arith; within = omega arith; rest = rw e (omega arith) }
+module _ (sizes listed : List ℕ) where
+  module _ (sum j : ℕ) (K : Summing sizes listed sum j) where
+    module _ (lt : j < length listed) (I : Inside listed) (i : ℕ) (L : i ≡ get_or listed j 0) where
+      pub summing_low : i < 192
+      summing_low = rw L (I.low j lt)
 
-  module _ (sum j : ℕ) (K : Summing sizes entries k sum j) where
-    module _ (lt : j < k) (I : Inside entries k) (S : SmallSizes sizes) (i : ℕ) (L : ListedAt entries j i) (n : ℕ) (N : n ≡ get_or sizes i 0) where
-      pub summing_room : sum + n < 2 ^ 64
-      summing_room = let s = K.small in let f = I.few in let g = S.low i L.low in omega arith
+      module _ (S : SmallSizes sizes) (n : ℕ) (N : n ≡ get_or sizes i 0) where
+        pub summing_turn : Summing sizes listed (sum + n) (j + 1)
+        unfolding sum_at
+        summing_turn =
+            let s = K.small in
+            let g = S.low i summing_low in
+            let here = N ∙ ap (λ x. get_or sizes x 0) L in
+            let first = ap (sum_at sizes) (drop-cons listed j 0 lt ∙ ap (λ k. get_or listed j 0 ∷ drop k listed) (sym (add-one j))) in
+            let r = K.rest in
+            record { small = omega arith; within = omega arith; rest = omega arith }
 
-      pub summing_turn : Summing sizes entries k (sum + n) (j + 1)
-      unfolding sum_at
-      summing_turn =
-          let s = K.small in
-          let g = S.low i L.low in
-          let here = N ∙ ap (λ x. get_or sizes x 0) L.is in
-          let first = ap (λ l. sum_at sizes (map (λ j. get_or entries j 0) l)) (range_left j k lt) in
-          let r = K.rest in
-          record { small = omega arith; within = omega arith; rest = omega arith }
-
-    pub summing_end : k ≤ j → ListedSum sizes entries k sum
+    pub summing_end : length listed ≤ j → ListedSum sizes listed sum
     unfolding sum_at
     summing_end l =
-        let none = ap (λ l. sum_at sizes (map (λ j. get_or entries j 0) l)) (range_over j k l) in
+        let none = ap (sum_at sizes) (drop_of_length-le listed l) in
         let r = K.rest in
         let s = K.small in
         let w = K.within in

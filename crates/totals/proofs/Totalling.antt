@@ -3,15 +3,14 @@ use mathlib.Core.List.{List, [], ◌∷◌, flat_map}
 use mathlib.Core.Path.{◌≡◌, sym, ◌∙◌, ap}
 use Prim.Native.Nat.{ℕ, ◌+◌, ◌-◌, ◌^◌, ◌≤◌, ◌<◌}
 use native.Mathlib.Omega.{arith}
-use lib.ListN.{length, length-append, length-map, get_or}
-use Rattle.lists.specs.Lists.{range}
-use Rattle.lists.proofs.Nodup.{length_range}
+use lib.ListN.{length, length-append, get_or, take, drop, length-drop}
+use lib.Seq.{get_or-drop, length-take-le}
+use Rattle.std.proofs.lemmas.List.{take_rest}
 use Rattle.asp.specs.Program.{Body}
 use Rattle.unfolding.specs.Unfolded.{Copy, kept_for}
-use Rattle.bits.specs.inner.Sets.{ByteAt}
 use Rattle.program.specs.inner.Held.{ProgramTable, bodies_at, program_in}
 use Rattle.copies.specs.inner.Bodies.{atom_count, kept_bodies}
-use Rattle.copies.specs.inner.Kept.{kept_entries, firsts, Selected}
+use Rattle.copies.specs.inner.Kept.{kept_entries, Selected}
 use Rattle.copies.specs.inner.Ready.{Ready, unfolded_in}
 use Rattle.copies.specs.declared.CopyStep.{CopyStep}
 use Rattle.copies.proofs.Keeping.{atoms_append}
@@ -21,6 +20,17 @@ use Rattle.copies.proofs.Sizes.{rules_short, atoms_short, constraints_number, co
 use Rattle.totals.specs.inner.Totals.{atoms_at, SizesOf, sum_at, ListedSum, KeptTotals, TotalsOf}
 use Rattle.totals.specs.declared.Totals.{Totals}
 use Rattle.totals.proofs.Sizing.{sum_atoms}
+
+-- The entry at an index of the slice behind the first three bytes.
+module _ (q : List ℕ) (k : ℕ) where
+  pub entry_within : k < length (take (length q - 3) (drop 3 q)) → 3 + k < length q
+  entry_within l = let e = ap length (take_rest q 3) in let d = length-drop 3 q in omega arith
+
+  pub entry_is : get_or (take (length q - 3) (drop 3 q)) k 0 ≡ get_or q (3 + k) 0
+  entry_is = ap (λ l. get_or l k 0) (take_rest q 3) ∙ get_or-drop 3 q k 0
+
+  pub entries_over : length (take (length q - 3) (drop 3 q)) ≤ k → length q ≤ 3 + k
+  entries_over l = let e = ap length (take_rest q 3) in let d = length-drop 3 q in omega arith
 
 -- With the rules of the copies that are left, and their atoms, the numbers are those of all copies.
 pub record TotalsLeft (all-copies : List Copy) (rules atoms : ℕ) (extra : ℕ) (past copies : List Copy) : Type 0 where
@@ -41,30 +51,30 @@ module _ (t : ProgramTable) (components q : List ℕ) (R : Ready t components q)
     abbrev L : CopiesLeft t q i keeping (TotalsLeft (unfolded_in t q).copies rules atoms)
     L = T.left
 
-    module _ (within : i < length q) (a : ℕ) (A : ByteAt q i a) where
+    module _ (within : i < length q) (a : ℕ) (A : a ≡ get_or q i 0) where
       low : get_or q i 0 < t.atoms
       low = entry_atom t components q R i L.from within
 
       pub totalling_atom : a < 64
-      totalling_atom = let l = low in let e = A.is in let f = R.readable.atoms in omega arith
+      totalling_atom = let l = low in let e = A in let f = R.readable.atoms in omega arith
 
-      module _ (list : List ℕ) (s : CopyStep) (S : Selected t.records t.entries components (record { rules = t.rules; atom = a; keeping = keeping }) list s) where
+      module _ (list : List ℕ) (s : CopyStep) (S : Selected t components a keeping list s) where
         abbrev kept : List Body
         kept = kept_for (program_in t) L.past (get_or q i 0)
 
         abbrev chosen : List ℕ
-        chosen = kept_entries t.records t.entries t.rules (get_or q i 0) (get_or components (get_or q i 0) 0) keeping
+        chosen = kept_entries t (get_or q i 0) (get_or components (get_or q i 0) 0) keeping
 
-        are : firsts list s.kept ≡ chosen
+        are : take s.kept list ≡ chosen
         are =
             S.kept.are
-            ∙ (ap (λ x. kept_entries t.records t.entries t.rules a x keeping) S.component
-            ∙ ap (λ x. kept_entries t.records t.entries t.rules x (get_or components x 0) keeping) A.is)
+            ∙ (ap (λ x. kept_entries t a x keeping) S.component
+            ∙ ap (λ x. kept_entries t x (get_or components x 0) keeping) A)
 
         number : length kept ≡ s.kept
         number =
             kept_number t components q R L.past keeping L.marks (get_or q i 0) low
-            ∙ (ap length (sym are) ∙ (length-map (range 0 s.kept) (λ j. get_or list j 0) ∙ length_range 0 s.kept))
+            ∙ (ap length (sym are) ∙ length-take-le s.kept list (let l = S.kept.long in let f = S.kept.few in omega arith))
 
         -- With the copy in front of those that are left.
         abbrev Here : List Copy → Type 0
@@ -77,7 +87,7 @@ module _ (t : ProgramTable) (components q : List ℕ) (R : Ready t components q)
             fits : (cs : List Copy) → Here cs → rules + s.kept < 2 ^ 64
             fits cs H = let u = H.rules_left in let f = length-append kept (kept_bodies cs) in let h = number in let g = rules_short t components q R in omega arith
 
-        module _ (sizes : List ℕ) (Z : SizesOf t.records t.entries t.rules sizes) (sum : ℕ) (U : ListedSum sizes list s.kept sum) where
+        module _ (sizes : List ℕ) (Z : SizesOf t.records t.entries t.rules sizes) (sum : ℕ) (U : ListedSum sizes (take s.kept list) sum) where
           summed : atom_count kept ≡ sum
           summed =
               kept_atoms t components q R L.past keeping L.marks (get_or q i 0) low
@@ -91,11 +101,11 @@ module _ (t : ProgramTable) (components q : List ℕ) (R : Ready t components q)
               fits : (cs : List Copy) → Here cs → atoms + sum < 2 ^ 64
               fits cs H = let v = H.atoms_left in let f = atoms_append kept (kept_bodies cs) in let h = summed in let g = atoms_short t components q R in omega arith
 
-          pub totalling_turn : Totalling t q (i + 1) s.keeping list (rules + s.kept) (atoms + sum)
+          pub totalling_turn : (j : ℕ) → j ≡ i + 1 → Totalling t q j s.keeping list (rules + s.kept) (atoms + sum)
           unfolding flat_map
-          totalling_turn =
+          totalling_turn j e = rw e
               record {
-                left = copies_turn t q i keeping (TotalsLeft (unfolded_in t q).copies rules atoms) L within a s.kept s.keeping _ A.is number S.marked counted;
+                left = copies_turn t q i keeping (TotalsLeft (unfolded_in t q).copies rules atoms) L within a s.kept s.keeping _ A number S.marked counted;
                 long = S.kept.long;
               }
             where

@@ -2,8 +2,9 @@
 use mathlib.Core.Bool.{Bool, true, false, cond}
 use mathlib.Core.List.{List, [], ◌∷◌, ◌++◌, map, map-append, map-map, append-nil, append_assoc}
 use mathlib.Core.Path.{◌≡◌, refl, sym, ◌∙◌, ap, ap₂}
-use Prim.Native.Nat.{ℕ, suc, ◌+◌, ◌-◌, ◌%◌, ◌^◌, ◌≤◌, ◌<◌}
+use Prim.Native.Nat.{ℕ, suc, ◌+◌, ◌-◌, ◌^◌, ◌≤◌, ◌<◌}
 use native.Mathlib.Nat.{zero-add}
+use native.Mathlib.Numerals.{add-one}
 use native.Mathlib.Omega.{arith}
 use borrow.Author.Tests.{eq-eqb, eqb-true, ne_eqb}
 use lib.Dec.{eqb}
@@ -34,11 +35,9 @@ pub added_there : (neg a : ℕ) (b : Bool) → neg < 2 ^ 64 → b ≡ has neg a 
 unfolding added_atom adding
 added_there neg a b w e t = record { is = rw (listed_member neg a w ∙ (sym e ∙ t)) (append-nil (listed neg)) }
 
-pub added_last : (neg a : ℕ) (b : Bool) → neg < 2 ^ 64 → b ≡ has neg a → b ≡ false → a < 64 → AddedTo neg a ((a + 1) % 256)
+pub added_last : (neg a : ℕ) (b : Bool) → neg < 2 ^ 64 → b ≡ has neg a → b ≡ false → AddedTo neg a (a + 1)
 unfolding added_atom adding
-added_last neg a b w e f l =
-    let small : (a + 1) % 256 ≡ suc a = omega arith in
-    record { is = rw (listed_member neg a w ∙ (sym e ∙ f), small) refl }
+added_last neg a b w e f = record { is = rw (listed_member neg a w ∙ (sym e ∙ f), add-one a) refl }
 
 -- One store.
 length_rules : (t p : List ℕ) (j k : ℕ) → length (rules_at t p j k) ≡ k
@@ -90,12 +89,12 @@ unless_entry : (h p q a r : ℕ) → AddedTo q a r → rule_of (record { head = 
 unfolding rule_of body_of unless
 unless_entry h p q a r A = ap (λ l. record { head = h; body = record { pos = listed p; neg = l } }) A.is
 
-module _ (r : SheetRecord) (source fresh k : ℕ) (K : k ≡ r.kind) (e : Entries) where
+module _ (r : SheetRecord) (source fresh : ℕ) (e : Entries) where
   module _ (R : Room (length (record_rules fresh (record_of r))) e) where
-    module _ (z : k ≡ 0) where
+    module _ (z : r.kind ≡ 0) where
       one_rule : record_rules fresh (record_of r) ≡ entry_rule (record { head = r.head; source = source; added = 0 }) r ∷ []
       unfolding record_rules record_of entry_rule
-      one_rule = rw (eq-eqb r.kind 0 (sym K ∙ z)) (ap (λ (x : Rule). x ∷ []) (sym (plain_entry r.head r.pos r.neg)))
+      one_rule = rw (eq-eqb r.kind 0 z) (ap (λ (x : Rule). x ∷ []) (sym (plain_entry r.head r.pos r.neg)))
 
       pub rule_room : Room 1 e
       rule_room = let n = ap length one_rule in room_more 1 _ e (omega arith) R
@@ -103,7 +102,7 @@ module _ (r : SheetRecord) (source fresh k : ℕ) (K : k ≡ r.kind) (e : Entrie
       pub rule_stored : (m : Entries) → EntryAppended e (record { head = r.head; source = source; added = 0 }) m → Appended source r e (record_rules fresh (record_of r)) m
       rule_stored m A = rw one_rule (A.appended r)
 
-    module _ (z : k ≡ 2) where
+    module _ (z : r.kind ≡ 2) where
       module _ (a b : ℕ) (A : AddedTo r.neg fresh a) where
         abbrev first_entry : List Rule
         first_entry = entry_rule (record { head = r.head; source = source; added = a }) r ∷ []
@@ -111,12 +110,12 @@ module _ (r : SheetRecord) (source fresh k : ℕ) (K : k ≡ r.kind) (e : Entrie
         two_rules : AddedTo r.neg r.head b → record_rules fresh (record_of r) ≡ first_entry ++ (entry_rule (record { head = fresh; source = source; added = b }) r ∷ [])
         unfolding record_rules record_of entry_rule
         two_rules B =
-            rw (ne_eqb r.kind 0 (λ e. omega arith), eq-eqb r.kind 2 (sym K ∙ z))
+            rw (ne_eqb r.kind 0 (λ e. omega arith), eq-eqb r.kind 2 z)
             (ap₂ (λ (x y : Rule). x ∷ y ∷ []) (sym (unless_entry r.head r.pos r.neg fresh a A)) (sym (unless_entry fresh r.pos r.neg r.head b B)))
 
       two : length (record_rules fresh (record_of r)) ≡ 2
       unfolding record_rules record_of
-      two = rw (ne_eqb r.kind 0 (λ e. omega arith), eq-eqb r.kind 2 (sym K ∙ z)) refl
+      two = rw (ne_eqb r.kind 0 (λ e. omega arith), eq-eqb r.kind 2 z) refl
 
       pub choice_room : Room 1 e
       choice_room = room_more 1 _ e (omega (arith, two)) R
@@ -128,25 +127,24 @@ module _ (r : SheetRecord) (source fresh k : ℕ) (K : k ≡ r.kind) (e : Entrie
           let s = (A.appended r).size in
           record { long = L.long; room = omega (arith, two) }
 
-      pub choice_stored : (a b h : ℕ) → AddedTo r.neg fresh a → h ≡ r.head → AddedTo r.neg h b → fresh < 64
+      pub choice_stored : (a b h : ℕ) → AddedTo r.neg fresh a → h ≡ r.head → AddedTo r.neg h b
           → (m n : Entries) → EntryAppended e (record { head = r.head; source = source; added = a }) m
-          → EntryAppended m (record { head = fresh % 256; source = source; added = b }) n → Appended source r e (record_rules fresh (record_of r)) n
-      choice_stored a b h A H B l m n M N =
-          let same : fresh % 256 ≡ fresh = omega arith in
+          → EntryAppended m (record { head = fresh; source = source; added = b }) n → Appended source r e (record_rules fresh (record_of r)) n
+      choice_stored a b h A H B m n M N =
           rw (two_rules a b A (rw H at B))
-          (appended_both source r e m n (first_entry a b A) (entry_rule (record { head = fresh; source = source; added = b }) r ∷ []) (M.appended r) (rw same at (N.appended r)))
+          (appended_both source r e m n (first_entry a b A) (entry_rule (record { head = fresh; source = source; added = b }) r ∷ []) (M.appended r) (N.appended r))
 
-    pub none_stored : (k ≡ 0 → ⊥) → (k ≡ 2 → ⊥) → Appended source r e (record_rules fresh (record_of r)) e
+    pub none_stored : (r.kind ≡ 0 → ⊥) → (r.kind ≡ 2 → ⊥) → Appended source r e (record_rules fresh (record_of r)) e
     unfolding record_rules record_of
     none_stored z t =
         let A = appended_none source r _ e R in
-        rw (ne_eqb r.kind 0 (λ e. z (K ∙ e)), ne_eqb r.kind 2 (λ e. t (K ∙ e))) A
+        rw (ne_eqb r.kind 0 z, ne_eqb r.kind 2 t) A
 
   module _ (R : Room (length (constraint_of (record_of r))) e) where
-    module _ (z : k ≡ 1) where
+    module _ (z : r.kind ≡ 1) where
       one_constraint : constraint_of (record_of r) ≡ entry_rule (record { head = r.head; source = source; added = 0 }) r ∷ []
       unfolding constraint_of record_of entry_rule
-      one_constraint = rw (eq-eqb r.kind 1 (sym K ∙ z)) (ap (λ (x : Rule). x ∷ []) (sym (plain_entry r.head r.pos r.neg)))
+      one_constraint = rw (eq-eqb r.kind 1 z) (ap (λ (x : Rule). x ∷ []) (sym (plain_entry r.head r.pos r.neg)))
 
       pub constraint_room : Room 1 e
       constraint_room = let n = ap length one_constraint in room_more 1 _ e (omega arith) R
@@ -154,9 +152,9 @@ module _ (r : SheetRecord) (source fresh k : ℕ) (K : k ≡ r.kind) (e : Entrie
       pub constraint_stored : (m : Entries) → EntryAppended e (record { head = r.head; source = source; added = 0 }) m → Appended source r e (constraint_of (record_of r)) m
       constraint_stored m A = rw one_constraint (A.appended r)
 
-    pub no_constraint : (k ≡ 1 → ⊥) → Appended source r e (constraint_of (record_of r)) e
+    pub no_constraint : (r.kind ≡ 1 → ⊥) → Appended source r e (constraint_of (record_of r)) e
     unfolding constraint_of record_of
-    no_constraint z = let A = appended_none source r _ e R in rw (ne_eqb r.kind 1 (λ e. z (K ∙ e))) A
+    no_constraint z = let A = appended_none source r _ e R in rw (ne_eqb r.kind 1 z) A
 
 -- Rules and constraints together are no more than the records and the choice rules.
 entries_few : (f : ℕ) (rs : List Record) → length (rules_of f rs) + length (constraints_from rs) ≤ length rs + choices rs
@@ -225,10 +223,10 @@ module _ (n : ℕ) (t : Records) (E : Expandable n t) where
       pub ruling_fresh : FreshFor r fresh
       ruling_fresh = fresh_for n t E j fresh W.number l r R
 
-      pub ruling_turn : (k next : ℕ) → k ≡ r.kind → next ≡ cond (eqb k 2) (suc fresh) fresh → (m : Entries) → Appended j r e (record_rules fresh (record_of r)) m → Ruling n t (j + 1) next m
+      pub ruling_turn : (next : ℕ) → next ≡ cond (eqb r.kind 2) (suc fresh) fresh → (m : Entries) → Appended j r e (record_rules fresh (record_of r)) m → Ruling n t (j + 1) next m
       unfolding next_fresh record_of
-      ruling_turn k next K X m A =
-          let same : next ≡ next_fresh fresh (record_of (row_at t.words j)) = X ∙ ap (λ k. cond (eqb k 2) (suc fresh) fresh) (K ∙ ap (λ x. x.kind) R) in
+      ruling_turn next X m A =
+          let same : next ≡ next_fresh fresh (record_of (row_at t.words j)) = X ∙ ap (λ (x : SheetRecord). cond (eqb x.kind 2) (suc fresh) fresh) R in
           record {
             number = numbering_turn n t j fresh next W.number l same;
             long = A.long;

@@ -60,47 +60,33 @@ rows_more r x rules old mid new e L R =
     }
 
 -- The rules of a record, one law for each kind.
-module _ (r : SheetRecord) (fresh k : ℕ) (K : k ≡ r.kind) (rows : List ℕ) where
-  module _ (h : ℕ) (H : h ≡ r.head) where
-    pub record_rule : k ≡ 0 → (new : List ℕ) → Linked h r.pos rows new → RecordLinked r fresh rows new fresh
-    unfolding record_rules next_fresh record_of
-    record_rule z new L =
-        let zero_kind = eq-eqb r.kind 0 (sym K ∙ z) in
-        let not_two = ne_eqb r.kind 2 (λ e. omega arith) in
-        record {
-          rows = rw zero_kind (rows_more (record { head = r.head; body = record { pos = listed r.pos; neg = listed r.neg } }) r.pos [] rows new new refl (rw H at L) (rows_none new L.long));
-          next = sym (rw not_two refl);
-        }
+module _ (r : SheetRecord) (fresh : ℕ) (rows : List ℕ) where
+  pub record_rule : (h : ℕ) → h ≡ r.head → r.kind ≡ 0 → (new : List ℕ) → Linked h r.pos rows new → RecordLinked r fresh rows new fresh
+  unfolding record_rules next_fresh record_of
+  record_rule h H z new L =
+      let zero_kind = eq-eqb r.kind 0 z in
+      let not_two = ne_eqb r.kind 2 (λ e. omega arith) in
+      record {
+        rows = rw zero_kind (rows_more (record { head = r.head; body = record { pos = listed r.pos; neg = listed r.neg } }) r.pos [] rows new new refl (rw H at L) (rows_none new L.long));
+        next = sym (rw not_two refl);
+      }
 
-    pub record_choice : k ≡ 2 → (mid new : List ℕ) → Linked h r.pos rows mid → Linked fresh r.pos mid new → RecordLinked r fresh rows new (fresh + 1)
-    unfolding record_rules next_fresh record_of unless
-    record_choice z mid new L M =
-        let not_zero = ne_eqb r.kind 0 (λ e. omega arith) in
-        let two = eq-eqb r.kind 2 (sym K ∙ z) in
-        record {
-          rows = rw (not_zero, two) (rows_more _ r.pos _ rows mid new refl (rw H at L) (rows_more _ r.pos [] mid new new refl M (rows_none new M.long)));
-          next = add-one fresh ∙ sym (rw two refl);
-        }
+  pub record_choice : (h : ℕ) → h ≡ r.head → r.kind ≡ 2 → (mid new : List ℕ) → Linked h r.pos rows mid → Linked fresh r.pos mid new → RecordLinked r fresh rows new (fresh + 1)
+  unfolding record_rules next_fresh record_of unless
+  record_choice h H z mid new L M =
+      let not_zero = ne_eqb r.kind 0 (λ e. omega arith) in
+      let two = eq-eqb r.kind 2 z in
+      record {
+        rows = rw (not_zero, two) (rows_more _ r.pos _ rows mid new refl (rw H at L) (rows_more _ r.pos [] mid new new refl M (rows_none new M.long)));
+        next = add-one fresh ∙ sym (rw two refl);
+      }
 
-  pub record_other : (k ≡ 0 → ⊥) → (k ≡ 2 → ⊥) → length rows ≡ 64 → RecordLinked r fresh rows rows fresh
+  pub record_other : (r.kind ≡ 0 → ⊥) → (r.kind ≡ 2 → ⊥) → length rows ≡ 64 → RecordLinked r fresh rows rows fresh
   unfolding record_rules next_fresh record_of
   record_other z t n =
-      let not_zero = ne_eqb r.kind 0 (λ e. z (K ∙ e)) in
-      let not_two = ne_eqb r.kind 2 (λ e. t (K ∙ e)) in
+      let not_zero = ne_eqb r.kind 0 z in
+      let not_two = ne_eqb r.kind 2 t in
       record { rows = rw (not_zero, not_two) (rows_none rows n); next = sym (rw not_two refl) }
-
-  module _ (F : FreshFor r fresh) where
-    pub rule_low : (h : ℕ) → h ≡ r.head → k ≡ 0 → h < 64
-    rule_low h H z = let l = F.heads (sym K ∙ z) in omega arith
-
-    pub choice_low : (h : ℕ) → h ≡ r.head → k ≡ 2 → h < 64
-    choice_low h H z = let l = (F.choice (sym K ∙ z)).0 in omega arith
-
-    pub fresh_low : k ≡ 2 → fresh < 64
-    fresh_low z = (F.choice (sym K ∙ z)).1
-
-    pub fresh_fits : k ≡ 2 → fresh + 1 < 2 ^ 64
-    fresh_fits z = let l = fresh_low z in omega arith
 
 -- The edges of the records that are left, and those in the table, are all.
 pub record Linking (n : ℕ) (t : Records) (j : ℕ) (rows : List ℕ) (fresh : ℕ) : Type 0 where

@@ -4,9 +4,8 @@ use mathlib.Core.List.{List, [], ◌∷◌, Memᴰ}
 use mathlib.Core.Path.{◌≡◌, refl, sym, ◌∙◌, ap}
 use Prim.Native.Nat.{ℕ, suc, ◌+◌, ◌-◌, ◌≤◌, ◌<◌}
 use native.Mathlib.Nat.{zero-add}
-use native.Mathlib.Numerals.{add-one}
 use native.Mathlib.Omega.{arith}
-use borrow.Author.Tests.{eq-eqb, ne_eqb, ltb-true}
+use borrow.Author.Tests.{eq-eqb, ltb-true}
 use lib.Dec.{eqb}
 use lib.ListN.{length}
 use Rattle.lists.specs.Lists.{filter}
@@ -42,12 +41,6 @@ module _ (t : Records) where
   record_member = row_member row_at record_of t.words t.count
 
 -- Each choice rule takes a fresh atom.
-pub next_choice : (k f : ℕ) → k ≡ 2 → f + 1 ≡ cond (eqb k 2) (suc f) f
-next_choice k f e = add-one f ∙ sym (rw (eq-eqb k 2 e) refl)
-
-pub next_other : (k f : ℕ) → (k ≡ 2 → ⊥) → f ≡ cond (eqb k 2) (suc f) f
-next_other k f e = sym (rw (ne_eqb k 2 e) refl)
-
 pub choices_next : (f : ℕ) (r : Record) (rs : List Record) → f + choices (r ∷ rs) ≡ next_fresh f r + choices rs
 unfolding choices next_fresh filter
 choices_next f r rs = by_bool (eqb r.kind 2) (λ t. rw t (omega arith)) (λ t. rw t refl)
@@ -98,13 +91,13 @@ module _ (t : List ℕ) (m : ℕ) where
   pub choosing_start : Choosing t m 0 0
   choosing_start = record { same = numbering_start 0 (held m t); few = omega arith; within = omega arith }
 
-  pub choosing_turn : (j number k next : ℕ) (r : SheetRecord) → Choosing t m j number → j < m → r ≡ row_at t j → k ≡ r.kind → next ≡ cond (eqb k 2) (suc number) number → Choosing t m (j + 1) next
+  pub choosing_turn : (j number next : ℕ) (r : SheetRecord) → Choosing t m j number → j < m → r ≡ row_at t j → next ≡ cond (eqb r.kind 2) (suc number) number → Choosing t m (j + 1) next
   unfolding next_fresh record_of
-  choosing_turn j number k next r C l R K e =
+  choosing_turn j number next r C l R e =
       let few = C.few in
       record {
-        same = numbering_turn 0 (held m t) j number next C.same l (e ∙ ap (λ k. cond (eqb k 2) (suc number) number) (K ∙ ap (λ x. x.kind) R));
-        few = by_bool (eqb k 2) (λ t. let z : next ≡ suc number = rw t at e in omega arith) (λ f. let z : next ≡ number = rw f at e in omega arith);
+        same = numbering_turn 0 (held m t) j number next C.same l (e ∙ ap (λ (x : SheetRecord). cond (eqb x.kind 2) (suc number) number) R);
+        few = by_bool (eqb r.kind 2) (λ t. let z : next ≡ suc number = rw t at e in omega arith) (λ f. let z : next ≡ number = rw f at e in omega arith);
         within = omega arith;
       }
 

@@ -9,19 +9,19 @@ ghost use Rattle.translation.specs.inner.Records.{held, records_in, ChoicesIn, E
 ghost use Rattle.translation.specs.inner.Linked.{Linked, RecordLinked, EdgesIn};
 ghost use Rattle.translation.specs.inner.Translated.{entries, Room, Appended, EntryAppended, AddedTo, constraint_of, Translated};
 
-use bits::{has, union, wide};
+use bits::{has, union};
 use program::ProgramSize;
 use tables::{Program, ProgramEntry, SheetRecord, Table, record_at, store_entry};
 
 // The number that comes behind a record of this kind, where each choice rule takes one.
-fn next_fresh(kind: usize, fresh: usize) -> usize
+fn next_fresh(kind: u8, fresh: usize) -> usize
     requires { fresh < 256 }
     ensures { result ≡ cond (eqb kind 2) (suc fresh) fresh }
 {
-    if kind == 2 {
-        return fresh + 1;
+    match kind {
+        2 => fresh + 1,
+        _ => fresh,
     }
-    fresh
 }
 
 // The number of choice rules among the first m records.
@@ -30,11 +30,8 @@ pub fn choices_in(records: &Table, m: usize) -> usize
     ensures { ChoicesIn records.now m result }
 {
     let mut number = 0;
-    let mut j = 0;
-    while j < m {
-        let r = record_at(records, j);
-        number = next_fresh(wide(r.kind), number);
-        j += 1;
+    for j in 0..m {
+        number = next_fresh(record_at(records, j).kind, number);
     }
     number
 }
@@ -52,18 +49,18 @@ fn link_record(rows: &mut [u64; 64], r: SheetRecord, fresh: usize) -> usize
     requires { (length rows.old ≡ 64) × FreshFor r fresh }
     ensures { RecordLinked r fresh rows.old rows.new result }
 {
-    let kind = wide(r.kind);
-    let head = wide(r.head);
-    if kind == 0 {
-        link(rows, head, r.pos);
-        return fresh;
+    match r.kind {
+        0 => {
+            link(rows, usize::from(r.head), r.pos);
+            fresh
+        }
+        2 => {
+            link(rows, usize::from(r.head), r.pos);
+            link(rows, fresh, r.pos);
+            fresh + 1
+        }
+        _ => fresh,
     }
-    if kind == 2 {
-        link(rows, head, r.pos);
-        link(rows, fresh, r.pos);
-        return fresh + 1;
-    }
-    fresh
 }
 
 // The edges of the program of the first m records over n written atoms, put into rows that are empty.
@@ -72,11 +69,9 @@ pub fn edges_of(n: usize, m: usize, records: &Table, rows: &mut [u64; 64])
     ensures { EdgesIn n (held m records.now) rows.new }
 {
     let mut fresh = n;
-    let mut j = 0;
-    while j < m {
+    for j in 0..m {
         let r = record_at(records, j);
         fresh = link_record(rows, r, fresh);
-        j += 1;
     }
 }
 
@@ -88,7 +83,7 @@ fn added_atom(neg: u64, a: usize) -> u8
     if has(neg, a) {
         return 0;
     }
-    ((a + 1) % 256) as u8
+    (a + 1) as u8
 }
 
 // Stores an entry at k; the index that comes next.
@@ -105,31 +100,31 @@ fn store_rules(program: &mut Program, k: usize, r: SheetRecord, source: u8, fres
     requires { Room (length (record_rules fresh (record_of r))) (entries k program.old) × FreshFor r fresh × (source < 128) }
     ensures { Appended source r (entries k program.old) (record_rules fresh (record_of r)) (entries result program.new) }
 {
-    let kind = wide(r.kind);
-    if kind == 0 {
-        let rule = ProgramEntry {
-            head: r.head,
-            source,
-            added: 0,
-        };
-        return store(program, k, rule);
+    match r.kind {
+        0 => {
+            let rule = ProgramEntry {
+                head: r.head,
+                source,
+                added: 0,
+            };
+            store(program, k, rule)
+        }
+        2 => {
+            let chosen = ProgramEntry {
+                head: r.head,
+                source,
+                added: added_atom(r.neg, fresh),
+            };
+            let second = store(program, k, chosen);
+            let other = ProgramEntry {
+                head: fresh as u8,
+                source,
+                added: added_atom(r.neg, usize::from(r.head)),
+            };
+            store(program, second, other)
+        }
+        _ => k,
     }
-    if kind == 2 {
-        let head = wide(r.head);
-        let chosen = ProgramEntry {
-            head: r.head,
-            source,
-            added: added_atom(r.neg, fresh),
-        };
-        let second = store(program, k, chosen);
-        let other = ProgramEntry {
-            head: (fresh % 256) as u8,
-            source,
-            added: added_atom(r.neg, head),
-        };
-        return store(program, second, other);
-    }
-    k
 }
 
 // Stores a record at k, where it is a constraint, with its source; the index that comes next.
@@ -137,7 +132,7 @@ fn store_constraint(program: &mut Program, k: usize, r: SheetRecord, source: u8)
     requires { Room (length (constraint_of (record_of r))) (entries k program.old) × (source < 128) }
     ensures { Appended source r (entries k program.old) (constraint_of (record_of r)) (entries result program.new) }
 {
-    if wide(r.kind) == 1 {
+    if r.kind == 1 {
         let body = ProgramEntry {
             head: r.head,
             source,
@@ -156,19 +151,15 @@ pub fn program_of(n: usize, m: usize, records: &Table, program: &mut Program) ->
 {
     let mut fresh = n;
     let mut rules = 0;
-    let mut j = 0;
-    while j < m {
+    for j in 0..m {
         let r = record_at(records, j);
         rules = store_rules(program, rules, r, j as u8, fresh);
-        fresh = next_fresh(wide(r.kind), fresh);
-        j += 1;
+        fresh = next_fresh(r.kind, fresh);
     }
     let mut all = rules;
-    let mut i = 0;
-    while i < m {
+    for i in 0..m {
         let r = record_at(records, i);
         all = store_constraint(program, all, r, i as u8);
-        i += 1;
     }
     ProgramSize {
         atoms: fresh,

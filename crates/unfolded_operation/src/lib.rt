@@ -6,8 +6,9 @@ ghost use Rattle.operations.specs.Calls.{naturals, Promised};
 ghost use Rattle.operations.specs.Calls as call;
 ghost use Rattle.operations.specs.Requirements.{Supported, TableFor};
 
-use operations::WriteAnswer;
+use copies::Unfolding;
 use program_check::check_program;
+use refusals::Refusal;
 use sheet::Limits;
 use unfolded_output::put_unfolded;
 use unfolded_sizes::unfolded_length;
@@ -19,14 +20,14 @@ pub fn unfolded(
     q: &[u8],
     out: &mut [u32],
     table: &mut [u64],
-) -> WriteAnswer
+) -> Result<usize, Refusal>
     requires { Supported limits × TableFor limits table.old }
     ensures { Promised limits (call.unfolded s.now q.now out.old) (from_write result) (naturals out.new) }
 {
     let mut records = [0u64; 384];
     let mut program = [0u32; 192];
     let mut components = [0u64; 64];
-    let a = check_program(
+    let size = check_program(
         limits,
         s,
         q,
@@ -34,16 +35,17 @@ pub fn unfolded(
         &mut program,
         &mut components,
         table,
-    );
-    let refusal = a.refusal;
-    if refusal != 0 {
-        return WriteAnswer::Refused(refusal);
-    }
-    let size = a.size;
-    let words = unfolded_length(size, &records, &program, q, &components);
+    )?;
+    let u = Unfolding {
+        size,
+        records: &records,
+        program: &program,
+        q,
+        components: &components,
+    };
+    let words = unfolded_length(&u);
     if out.len() < words {
-        return WriteAnswer::Refused(10);
+        return Err(Refusal::Room);
     }
-    let length = put_unfolded(out, size, &records, &program, q, &components);
-    WriteAnswer::Length(length)
+    Ok(put_unfolded(out, &u))
 }

@@ -3,7 +3,7 @@ use mathlib.Core.List.{List, [], ◌∷◌, ◌++◌, flat_map}
 use mathlib.Core.Path.{◌≡◌, refl, sym, ap, ap₂, subst}
 use Prim.Native.Nat.{ℕ, ◌+◌, ◌-◌, ◌≤◌, ◌<◌}
 use native.Mathlib.Omega.{arith}
-use lib.ListN.{length, length-append, replicate}
+use lib.ListN.{length, length-append, replicate, take}
 use Rattle.lists.specs.Lists.{range}
 use Rattle.asp.specs.Program.{Body}
 use Rattle.unfolding.specs.Unfolded.{Copy, Unfolded, last, body_words, copy_words, words}
@@ -12,7 +12,7 @@ use Rattle.program.specs.declared.ProgramSize.{ProgramSize}
 use Rattle.program.specs.declared.TableRule.{TableRule}
 use Rattle.writer.specs.inner.Wrote.{Wrote}
 use Rattle.writer.proofs.Writing.{Left, left_start, left_turn, left_end, left_length, left_room, wrote_append, wrote_length}
-use Rattle.writer.proofs.Loops.{flat_map_map, RangeLeft, range_start, range_turn, range_room, range_length, range_end}
+use Rattle.writer.proofs.Loops.{flat_map_map, RangeLeft, range_turn, range_room, range_end}
 use Rattle.copies.specs.inner.Tables.{Values}
 use Rattle.copies.specs.inner.Bodies.{entry_body, bodies_by, body_atoms}
 use Rattle.copies.specs.inner.Made.{Made}
@@ -40,9 +40,6 @@ module _ (t p vars old : List ℕ) (at from to : ℕ) where
   unfolding entries_words bodies_words entry_body rule_body_words
   entries_are = sym (flat_map_map body_words (entry_body t p vars) (range from (to - from)))
 
-  pub entries_start : EntriesLeft t p vars old at from to old at from
-  entries_start = range_start f old at from to
-
   module _ (cur : List ℕ) (next j : ℕ) (L : EntriesLeft t p vars old at from to cur next j) where
     module _ (lt : j < to) (r : TableRule) (R : r ≡ table_rule t p j) where
       pub entries_room : at + length (entries_words t p vars from to) ≤ length old → next + 2 + body_atoms r ≤ length cur
@@ -55,9 +52,6 @@ module _ (t p vars old : List ℕ) (at from to : ℕ) where
       pub entries_turn : (new : List ℕ) (behind : ℕ) → Wrote cur next (rule_body_words vars r) new behind → EntriesLeft t p vars old at from to new behind (j + 1)
       entries_turn new behind W = range_turn f old at from to cur next j L lt new behind (subst (λ x. Wrote cur next (rule_body_words vars x) new behind) R W)
 
-    pub entries_length : length cur ≡ length old
-    entries_length = range_length f old at from to cur next j L
-
     pub entries_end : to ≤ j → Wrote old at (entries_words t p vars from to) cur next
     entries_end l = subst (λ ws. Wrote old at ws cur next) entries_are (range_end f old at from to cur next j L l)
 
@@ -68,7 +62,8 @@ pub record WordsLeft (old : List ℕ) (at : ℕ) (ws cur : List ℕ) (next : ℕ
 -- The loop over the copies, with what was asked for.
 pub record CopiesWritten (t : ProgramTable) (components q lasts old : List ℕ)
     (i keeping : ℕ) (list latest : List ℕ) (highest : ℕ) (cur : List ℕ) (next : ℕ) : Type 0 where
-  pub asked : CopiesReady t components q lasts old
+  pub ready : Ready t components q
+  pub asked : CopiesReady (unfolded_in t q) lasts old
   pub emitting : Emitting t q i keeping list latest highest (WordsLeft old 1 (copies_words (unfolded_in t q)) cur next)
 
 module _ (size : ProgramSize) (records program components q lasts old : List ℕ) where
@@ -78,11 +73,11 @@ module _ (size : ProgramSize) (records program components q lasts old : List ℕ
   abbrev total : List ℕ
   total = copies_words (unfolded_in t q)
 
-  pub copies_start : CopiesReady (table_of size records program) components q lasts old
+  pub copies_start : Ready (table_of size records program) components q → CopiesReady (unfolded_in (table_of size records program) q) lasts old
       → CopiesWritten (table_of size records program) components q lasts old 3 0 (replicate 192 0) (replicate 64 0) size.atoms old 1
   unfolding copies_words
-  copies_start A =
-      record { asked = A; emitting = emitting_start t components q A.ready (WordsLeft old 1 total old 1) (record { rest = left_start old 1 total _ refl }) }
+  copies_start R A =
+      record { ready = R; asked = A; emitting = emitting_start t components q R (WordsLeft old 1 total old 1) (record { rest = left_start old 1 total _ refl }) }
 
   module _ (i keeping : ℕ) (before latest : List ℕ) (highest : ℕ) (cur : List ℕ) (next : ℕ)
       (W : CopiesWritten (table_of size records program) components q lasts old i keeping before latest highest cur next) where
@@ -94,34 +89,38 @@ module _ (size : ProgramSize) (records program components q lasts old : List ℕ
 
     pub copies_end : length q ≤ i → Wrote old 1 (copies_words (unfolded_in (table_of size records program) q)) cur next
     unfolding flat_map
-    copies_end l = left_end old 1 total cur [] next (emitting_end t components q W.asked.ready i keeping before latest highest Rest W.emitting l).rest refl
+    copies_end l = left_end old 1 total cur [] next (emitting_end t components q W.ready i keeping before latest highest Rest W.emitting l).rest refl
 
     module _ (within : i < length q) where
       module _ (c : EntryCopy) (M : Made q i highest c) (list after vars : List ℕ) (r : CopyStep)
-          (N : CopyMade records program components latest lasts (record { entry = c; k = size.rules; keeping = keeping }) list after vars r) where
-        abbrev here : List ℕ
-        here = kept_words records program vars c.var list r.kept
+          (N : CopyMade (table_of size records program) components latest lasts c keeping list after vars r) where
+        abbrev listed : List ℕ
+        listed = take r.kept list
 
-        step : (cs : List Copy) → flat_map copy_words (record { atom = c.atom; var = c.var; kept = bodies_by records program vars list r.kept } ∷ cs) ≡ here ++ flat_map copy_words cs
+        abbrev here : List ℕ
+        here = kept_words records program vars c.var listed
+
+        step : (cs : List Copy) → flat_map copy_words (record { atom = c.atom; var = c.var; kept = bodies_by records program vars listed } ∷ cs) ≡ here ++ flat_map copy_words cs
         unfolding flat_map copy_words kept_words listed_words bodies_words
         step cs =
-            ap (λ n. (c.var ∷ n ∷ listed_words records program vars list r.kept) ++ flat_map copy_words cs) (bodies_number records program vars list r.kept)
+            ap (λ n. (c.var ∷ n ∷ listed_words records program vars listed) ++ flat_map copy_words cs) (bodies_number records program vars listed)
 
-        pub copies_ready : CopyReady records program vars lasts (record { at = next; var = c.var; kept = r.kept }) list cur
+        pub copies_ready : CopyReady records program vars lasts next c.var (take r.kept list) cur
         copies_ready =
-            let S = emitting_here t components q W.asked.ready i keeping before latest highest Rest W.emitting within c M lasts list after vars r N W.asked.by_last in
+            let S = emitting_here t components q W.ready i keeping before latest highest Rest W.emitting within c M lasts list after vars r N W.asked.by_last in
             record {
               by_last = W.asked.by_last;
               inside = N.selected.kept.inside;
               room = left_room old 1 total cur here _ _ next S.holds.rest (step S.copies) W.asked.room;
             }
 
-        pub copies_turn : (new : List ℕ) (behind : ℕ) → Wrote cur next (kept_words records program vars c.var list r.kept) new behind
+        pub copies_turn : (new : List ℕ) (behind : ℕ) → Wrote cur next (kept_words records program vars c.var (take r.kept list)) new behind
             → CopiesWritten (table_of size records program) components q lasts old (i + 1) r.keeping list after c.highest new behind
         copies_turn new behind U =
             record {
+              ready = W.ready;
               asked = W.asked;
-              emitting = emitting_turn t components q W.asked.ready i keeping before latest highest Rest W.emitting within c M lasts list after vars r N W.asked.by_last (WordsLeft old 1 total new behind)
+              emitting = emitting_turn t components q W.ready i keeping before latest highest Rest W.emitting within c M lasts list after vars r N W.asked.by_last (WordsLeft old 1 total new behind)
                   (λ cs L. record { rest = left_turn old 1 total cur new here _ _ next behind L.rest (step cs) U });
             }
 
@@ -147,8 +146,8 @@ module _ (size : ProgramSize) (records program components q lasts : List ℕ) (R
     whole_first = let e = whole_size in omega arith
 
     module _ (o₁ : List ℕ) (first : ℕ) (W₁ : Wrote old 0 ((length q - 3) ∷ []) o₁ first) where
-      pub whole_copies : CopiesReady (table_of size records program) components q lasts o₁
-      whole_copies = record { ready = R; by_last = F; room = let e = whole_size in let n = wrote_length _ _ _ _ _ W₁ in omega arith }
+      pub whole_copies : CopiesReady (unfolded_in (table_of size records program) q) lasts o₁
+      whole_copies = record { by_last = F; room = let e = whole_size in let n = wrote_length _ _ _ _ _ W₁ in omega arith }
 
       module _ (o₂ : List ℕ) (behind : ℕ) (W₂ : Wrote o₁ 1 (copies_words (unfolded_in (table_of size records program) q)) o₂ behind) where
         pub whole_number : behind < length o₂

@@ -3,60 +3,35 @@
 
 ghost use Rattle.std.specs.Prelude.{◌+◌, ◌≤◌, length};
 ghost use Rattle.unfolding.specs.Unfolded.{last, words};
-ghost use Rattle.program.specs.inner.Held.{table_of};
 ghost use Rattle.writer.specs.inner.Wrote.{Wrote};
 ghost use Rattle.copies.specs.inner.Tables.{Values};
-ghost use Rattle.copies.specs.inner.Ready.{Ready, unfolded_in};
+ghost use Rattle.copies.specs.inner.Given.{ReadyIn, unfolded_by};
 ghost use Rattle.unfolded_output.specs.inner.Words.{entries_words, copies_words, CopiesReady};
 
 use body_words::put_body;
-use copies::{NewCopy, copy_at, last_copies, last_places, next_copy};
-use copy_words::{CopyPlace, put_copy};
-use program::{ProgramSize, rule_at};
-use tables::{Program, Table};
-use writer::put_word;
+use copies::{Unfolding, copy_at, last_copies, last_places, next_copy};
+use copy_words::put_copy;
+use writer::put;
 
 // All copies, in sequence order, behind the number of them.
-fn put_copies(
-    out: &mut [u32],
-    size: ProgramSize,
-    records: &Table,
-    program: &Program,
-    q: &[u8],
-    components: &[u64; 64],
-    lasts: &[u32; 64],
-) -> usize
-    requires { CopiesReady (table_of size records.now program.now) components.now q.now lasts.now out.old }
-    ensures { Wrote out.old 1 (copies_words (unfolded_in (table_of size records.now program.now) q.now))
+fn put_copies(out: &mut [u32], u: &Unfolding, lasts: &[u32; 64]) -> usize
+    requires { ReadyIn u.now × CopiesReady (unfolded_by u.now) lasts.now out.old }
+    ensures { Wrote out.old 1 (copies_words (unfolded_by u.now))
         out.new result }
 {
-    let table = last_places(q);
+    let places = last_places(u.q);
     let mut latest = [0u32; 64];
     let mut entries = [0u8; 192];
     let mut keeping: u64 = 0;
-    let mut highest = size.atoms as u32;
+    let mut highest = u.size.atoms as u32;
     let mut at = 1;
-    let mut i = 3;
-    while i < q.len() {
-        let entry = copy_at(q, i, &table.places, highest);
+    for i in 3..u.q.len() {
+        let entry = copy_at(u.q, i, &places, highest);
         highest = entry.highest;
-        i += 1;
-        let var = entry.var;
-        let k = size.rules;
-        let copy = NewCopy { entry, k, keeping };
         let mut vars = *lasts;
-        let step = next_copy(
-            records,
-            program,
-            components,
-            &mut entries,
-            &mut latest,
-            &mut vars,
-            copy,
-        );
-        let kept = step.kept;
-        let place = CopyPlace { at, var, kept };
-        at = put_copy(out, place, &entries, records, program, &vars, lasts);
+        let step = next_copy(u, &mut entries, &mut latest, &mut vars, entry, keeping);
+        let listed = &entries[..step.kept];
+        at = put_copy(out, at, entry.var, u, listed, &vars, lasts);
         keeping = step.keeping;
     }
     at
@@ -68,53 +43,34 @@ fn put_entries(
     at: usize,
     from: usize,
     to: usize,
-    records: &Table,
-    program: &Program,
+    u: &Unfolding,
     lasts: &[u32; 64],
 ) -> usize
     requires { Values last lasts.now × (to ≤ 192)
-        × (at + length (entries_words records.now program.now lasts.now from to) ≤ length out.old) }
-    ensures { Wrote out.old at (entries_words records.now program.now lasts.now from to)
+        × (at + length (entries_words u.now.records.now u.now.program.now lasts.now from to) ≤ length out.old) }
+    ensures { Wrote out.old at (entries_words u.now.records.now u.now.program.now lasts.now from to)
         out.new result }
 {
     let mut next = at;
-    let mut j = from;
-    while j < to {
-        let rule = rule_at(records, program, j);
+    for j in from..to {
+        let rule = u.rule_at(j);
         next = put_body(out, next, rule, lasts, lasts);
-        j += 1;
     }
     next
 }
 
 // The unfolded program: the number of copies, the copies, the number of constraints and those.
-pub fn put_unfolded(
-    out: &mut [u32],
-    size: ProgramSize,
-    records: &Table,
-    program: &Program,
-    q: &[u8],
-    components: &[u64; 64],
-) -> usize
-    requires { Ready (table_of size records.now program.now) components.now q.now
-        × (length (words (unfolded_in (table_of size records.now program.now) q.now)) ≤ length out.old) }
-    ensures { Wrote out.old 0 (words (unfolded_in (table_of size records.now program.now) q.now))
+pub fn put_unfolded(out: &mut [u32], u: &Unfolding) -> usize
+    requires { ReadyIn u.now × (length (words (unfolded_by u.now)) ≤ length out.old) }
+    ensures { Wrote out.old 0 (words (unfolded_by u.now))
         out.new result }
 {
-    let from = size.rules;
-    let constraints = size.constraints;
-    let table = last_copies();
-    let count = q.len() - 3;
-    put_word(out, 0, count as u32);
-    let behind = put_copies(out, size, records, program, q, components, &table.vars);
-    let next = put_word(out, behind, constraints as u32);
-    put_entries(
-        out,
-        next,
-        from,
-        from + constraints,
-        records,
-        program,
-        &table.vars,
-    )
+    let from = u.size.rules;
+    let constraints = u.size.constraints;
+    let lasts = last_copies();
+    let count = u.q.len() - 3;
+    put(out, 0, count as u32);
+    let behind = put_copies(out, u, &lasts);
+    let next = put(out, behind, constraints as u32);
+    put_entries(out, next, from, from + constraints, u, &lasts)
 }

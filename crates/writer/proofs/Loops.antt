@@ -1,10 +1,12 @@
--- Loops that write the elements of each atom of a set, lowest first, or of each number of a range.
+-- Loops that write the elements of each atom of a set, lowest first, of each number of a range, or of each number of a list.
 use mathlib.Core.List.{List, [], ◌∷◌, ◌++◌, map, flat_map}
-use mathlib.Core.Path.{◌≡◌, refl, ◌∙◌, ap}
+use mathlib.Core.Path.{◌≡◌, refl, sym, ◌∙◌, ap}
 use Prim.Native.Nat.{ℕ, ◌+◌, ◌-◌, ◌≤◌, ◌<◌}
 use native.Mathlib.Omega.{arith}
 use lib.Bits.{bit_and}
-use lib.ListN.{length}
+use native.Mathlib.Numerals.{add-one}
+use lib.ListN.{length, get_or, drop, drop_of_length-le}
+use lib.Seq.{drop-cons}
 use Rattle.lists.specs.Lists.{range}
 use Rattle.lists.proofs.Members.{flat_map_append, range_left, range_over}
 use Rattle.bits.specs.inner.Visited.{listed, Lowest, Rest, Run, WithoutRun}
@@ -36,6 +38,10 @@ module _ {A : Type 0} (f : ℕ → List A) where
   -- The loop over the numbers from .. to - 1, of which those from j on are left.
   pub record RangeLeft (old : List A) (at from to : ℕ) (cur : List A) (next j : ℕ) : Type 0 where
     pub rest : Left old at (flat_map f (range from (to - from))) cur next (flat_map f (range j (to - j)))
+
+  -- The loop over the numbers of a list, of which those from index j on are left.
+  pub record ItemsLeft (old : List A) (at : ℕ) (l : List ℕ) (cur : List A) (next j : ℕ) : Type 0 where
+    pub rest : Left old at (flat_map f l) cur next (flat_map f (drop j l))
 
 module _ {A : Type 0} (f : ℕ → List A) (old : List A) (at x : ℕ) where
   pub set_start : SetLeft f old at x old at x
@@ -98,3 +104,26 @@ module _ {A : Type 0} (f : ℕ → List A) (old : List A) (at from to : ℕ) whe
     pub range_end : to ≤ j → Wrote old at range_words cur next
     unfolding flat_map
     range_end l = left_end old at range_words cur _ next L.rest (ap (flat_map f) (range_over j to l))
+
+module _ {A : Type 0} (f : ℕ → List A) (old : List A) (at : ℕ) (l : List ℕ) where
+  pub items_start : ItemsLeft f old at l old at 0
+  items_start = record { rest = left_start old at (flat_map f l) _ refl }
+
+  module _ (cur : List A) (next j : ℕ) (L : ItemsLeft f old at l cur next j) where
+    module _ (lt : j < length l) where
+      item_step : flat_map f (drop j l) ≡ f (get_or l j 0) ++ flat_map f (drop (j + 1) l)
+      unfolding flat_map
+      item_step = ap (flat_map f) (drop-cons l j 0 lt ∙ ap (λ k. get_or l j 0 ∷ drop k l) (sym (add-one j)))
+
+      pub items_turn : (new : List A) (behind : ℕ) → Wrote cur next (f (get_or l j 0)) new behind → ItemsLeft f old at l new behind (j + 1)
+      items_turn new behind W = record { rest = left_turn old at (flat_map f l) cur new (f (get_or l j 0)) _ _ next behind L.rest item_step W }
+
+      pub items_room : at + length (flat_map f l) ≤ length old → next + length (f (get_or l j 0)) ≤ length cur
+      items_room h = left_room old at (flat_map f l) cur (f (get_or l j 0)) _ _ next L.rest item_step h
+
+    pub items_length : length cur ≡ length old
+    items_length = left_length old at (flat_map f l) cur _ next L.rest
+
+    pub items_end : length l ≤ j → Wrote old at (flat_map f l) cur next
+    unfolding flat_map
+    items_end h = left_end old at (flat_map f l) cur _ next L.rest (ap (flat_map f) (drop_of_length-le l h))

@@ -9,9 +9,6 @@ use lib.Seq.{sets, length-sets, sets-eq, take-append_seam}
 use Rattle.writer.specs.inner.Wrote.{Wrote}
 
 module _ {A : Type 0} where
-  pub wrote_one : (old : List A) (at : ℕ) (w : A) → Wrote old at (w ∷ []) (set old at w) (at + 1)
-  wrote_one old at w = record { stored = refl; moved = refl }
-
   -- The buffer keeps its length.
   pub wrote_length : (old : List A) (at : ℕ) (ws new : List A) (next : ℕ) → Wrote old at ws new next → length new ≡ length old
   wrote_length old at ws new next W = ap length W.stored ∙ length-sets old at ws

@@ -3,8 +3,8 @@ use borrow.Author.Rules.{rules}
 use Rattle.operations.proofs.Bodies.{body_none, body_count}
 use Rattle.body_operations.proofs.body.Goals as goal
 
-pub returns-then-refusal-ne0 : goal.returns-then-refusal-ne0
-returns-then-refusal-ne0 c = search (rules, body_none)
+pub returns-in_err-find_body : goal.returns-in_err-find_body
+returns-in_err-find_body c = search (rules, body_none)
 
 pub returns : goal.returns
 returns c = search (rules, body_count)

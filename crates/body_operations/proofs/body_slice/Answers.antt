@@ -1,10 +1,9 @@
 -- `body_operations::body_slice` meets its contract, one law for each way through it.
-use borrow.Author.Rules.{rules}
-use Rattle.operations.proofs.Bodies.{slice_shown, contents_empty, refused_empty, refused_lies}
+use Rattle.operations.proofs.Bodies.{slice_shown, slice_empty}
 use Rattle.body_operations.proofs.body_slice.Goals as goal
 
-pub returns-then-b-ne0 : goal.returns-then-b-ne0
-returns-then-b-ne0 c = search (rules, contents_empty, refused_empty, refused_lies)
+pub returns-in_default : goal.returns-in_default
+returns-in_default c = slice_empty _ _ _ _ c.in_default.ensures _
 
 pub returns : goal.returns
-returns c = search (rules, slice_shown)
+returns c = slice_shown _ _ _ _ c.in-Ok.ensures _

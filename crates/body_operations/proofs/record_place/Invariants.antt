@@ -3,7 +3,4 @@ use Rattle.body_operations.proofs.Bodies.{Going}
 use Rattle.body_operations.proofs.record_place.Given as goal
 
 abbrev pub invariant-loop-i : goal.invariant-loop-i
-invariant-loop-i l = Going l.s l.n l.number l.left l.at l.i
-
-abbrev pub decreases-loop-i : goal.decreases-loop-i
-decreases-loop-i l = l.i
+invariant-loop-i l = Going l.s l.n l.m l.number l.at l.i

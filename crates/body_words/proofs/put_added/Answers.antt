@@ -6,8 +6,8 @@ use Rattle.body_words.proofs.put_added.Goals as goal
 pub returns-then-added-eq0 : goal.returns-then-added-eq0
 returns-then-added-eq0 c = search (rules, added_none)
 
-pub put_word-requires : goal.put_word-requires
-put_word-requires c = search (rules, added_room)
+pub put-requires : goal.put-requires
+put-requires c = search (rules, added_room)
 
 pub returns : goal.returns
 returns c = search (rules, added_one)

@@ -1,13 +1,7 @@
 -- `body_words::put_runs` meets its contract, one law for each way through it.
 use borrow.Author.Rules.{rules}
-use Rattle.body_words.proofs.Body.{vars_start, vars_room, vars_turn, vars_less, vars_length, vars_end, run_fits, run_room, run_turn, run_less}
+use Rattle.body_words.proofs.Body.{vars_room, vars_turn, vars_less, vars_end, run_fits, run_room, run_turn, run_less}
 use Rattle.body_words.proofs.put_runs.Goals as goal
-
-pub loop-left-init : goal.loop-left-init
-loop-left-init c = search (rules, vars_start)
-
-pub without_eight-left-requires : goal.without_eight-left-requires
-without_eight-left-requires c = search (rules, run_fits)
 
 pub put_eight-next-requires : goal.put_eight-next-requires
 put_eight-next-requires c = search (rules, run_fits, run_room)
@@ -18,17 +12,14 @@ loop-left-smaller-then-has_eight c = search (rules, run_less)
 pub loop-left-preserved-then-has_eight : goal.loop-left-preserved-then-has_eight
 loop-left-preserved-then-has_eight c = search (rules, run_turn)
 
-pub put_word-next-requires : goal.put_word-next-requires
-put_word-next-requires c = search (rules, vars_room)
+pub put-next-requires : goal.put-next-requires
+put-next-requires c = search (rules, vars_room)
 
 pub loop-left-smaller : goal.loop-left-smaller
 loop-left-smaller c = search (rules, vars_less)
 
 pub loop-left-preserved : goal.loop-left-preserved
 loop-left-preserved c = search (rules, vars_turn)
-
-pub shape_of-out : goal.shape_of-out
-shape_of-out c = search (rules, vars_length)
 
 pub returns : goal.returns
 returns c = search (rules, vars_end)

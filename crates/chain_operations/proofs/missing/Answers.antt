@@ -6,28 +6,28 @@ use borrow.Author.Rules.{rules}
 use mathlib.Core.List.{[]}
 use Rattle.chain_operations.proofs.missing.Goals as goal
 
-pub returns-then-refusal-ne0 : goal.returns-then-refusal-ne0
-returns-then-refusal-ne0 c = search (rules, missing_refused)
+pub returns-in_err-a : goal.returns-in_err-a
+returns-in_err-a c = search (rules, missing_refused)
 
-pub returns-then-entries-ne0 : goal.returns-then-entries-ne0
-returns-then-entries-ne0 c = search (rules, missing_malformed)
+pub returns-in_err-check_entries : goal.returns-in_err-check_entries
+returns-in_err-check_entries c = search (rules, missing_malformed, c.in_ok-a.ensures)
 
-pub find_start-start-requires : goal.find_start-start-requires
-find_start-start-requires c = search (rules, sheet_low, sheet_small, sequence_long, sequence_low)
+pub find_start-requires : goal.find_start-requires
+find_start-requires c = let known = c.in_ok-a.ensures.value in search (rules, sheet_low, sheet_small, sequence_long, sequence_low, known, c.in_ok-check_entries.ensures)
 
-pub returns-then-start-gt64 : goal.returns-then-start-gt64
-returns-then-start-gt64 c = search (rules, missing_none)
+pub returns-in_default : goal.returns-in_default
+returns-in_default c = missing_none _ _ _ _ _ _ _ _ c.in_ok-a.ensures c.in_ok-check_entries.ensures c.in_default.ensures
 
 pub returns-then-out-start : goal.returns-then-out-start
-returns-then-out-start c = search (rules, missing_no_room)
+returns-then-out-start c = missing_no_room _ _ _ _ _ _ _ _ c.in_ok-a.ensures c.in_ok-check_entries.ensures _ c.in-Some.ensures c.if-out-start.true
 
-pub put_missing-length-requires : goal.put_missing-length-requires
-put_missing-length-requires c =
+pub put_missing-requires : goal.put_missing-requires
+put_missing-requires c =
     let pre = c.requires in
-    let asked = c.check_sheet-a.ensures in
-    let entries = c.check_entries-entries.ensures in
-    let start = c.find_start-start.ensures in
-    (search rules, missing_roomy _ _ _ [] _ _ _ _ asked (search rules) _ entries (search rules) _ start (search rules) pre.0 _ (still_room _ _ _ pre.1 (search rules)), missing_position _ _ _ [] _ _ _ _ asked (search rules) _ entries (search rules) pre.0, missing_low _ _ _ [] _ _ _ _ asked (search rules) _ entries (search rules), some_missing _ _ _ [] _ _ _ _ asked (search rules) _ entries (search rules) _ start (search rules))
+    let asked = c.in_ok-a.ensures in
+    let entries = c.in_ok-check_entries.ensures in
+    let start = c.in-Some.ensures in
+    (search rules, missing_roomy _ _ _ [] _ _ _ _ asked entries _ start pre.0 _ (still_room _ _ _ pre.1 (search rules)), missing_position _ _ _ [] _ _ _ _ asked entries pre.0, missing_low _ _ _ [] _ _ _ _ asked entries, some_missing _ _ _ [] _ _ _ _ asked entries _ start)
 
 pub returns : goal.returns
-returns c = search (rules, missing_put)
+returns c = missing_put _ _ _ _ _ _ _ _ c.in_ok-a.ensures c.in_ok-check_entries.ensures _ c.in-Some.ensures _ _ (search rules) c.put_missing.ensures

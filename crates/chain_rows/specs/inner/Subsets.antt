@@ -51,11 +51,6 @@ pub record TableAfter (old : List ℕ) (size i after : ℕ) (new : List ℕ) : T
 pub record Followers (rows atoms : List ℕ) (k x r : ℕ) : Type 0 where
   pub members : (q : ℕ) → has r q ≡ (ltb q k && has (get_or rows (get_or atoms q 0) 0) x)
 
--- The place of x among the first k atoms, or k where it has none.
-pub record PlaceOf (atoms : List ℕ) (k x r : ℕ) : Type 0 where
-  pub found : r < k → get_or atoms r 0 ≡ x
-  pub absent : k ≤ r → (q : ℕ) → q < k → get_or atoms q 0 ≡ x → ⊥
-
 -- r is the number of sets of k places.
 pub record Power (k r : ℕ) : Type 0 where
   pub is : r ≡ 2 ^ k

@@ -1,11 +1,8 @@
--- `chain_table::fill` meets its contract, one law for each way through it.
-use mathlib.Core.Path.{◌≡◌}
 use lib.ListN.{length}
 use Rattle.chain_table.proofs.Filling.{Reading}
 use Rattle.chain_table.proofs.fill.Given as goal
 
-abbrev pub invariant-loop-i : goal.invariant-loop-i
-invariant-loop-i l = Reading l.rows l.atoms l.k l.q l.from l.i l.table × (length l.table ≡ length l.initial.table)
-
-abbrev pub decreases-loop-i : goal.decreases-loop-i
-decreases-loop-i l = l.i
+abbrev pub invariant-loop-x : goal.invariant-loop-x
+invariant-loop-x l =
+    (goal.iterator-loop-x).can_next l.x-iterator × (goal.iterator-loop-x).is_finite l.x-iterator
+    × Reading l.rows l.atoms (length l.atoms) l.q l.from l.x-iterator.iter.rest.now l.table

@@ -1,4 +1,3 @@
--- `chains::component_found` meets its contract, one law for each way through it.
 use Rattle.chains.proofs.Components.{set_alone}
 use borrow.Author.Rules.{rules}
 use Rattle.chains.proofs.component_found.Goals as goal

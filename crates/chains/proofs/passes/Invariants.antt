@@ -1,12 +1,6 @@
--- `chains::passes` meets its contract, one law for each way through it.
-use mathlib.Core.Path.{◌≡◌}
-use Prim.Native.Nat.{◌-◌}
-use lib.ListN.{length, drop}
+use lib.ListN.{drop}
 use Rattle.chains.proofs.Components.{Asking}
 use Rattle.chains.proofs.passes.Given as goal
 
-abbrev pub invariant-loop-c : goal.invariant-loop-c
-invariant-loop-c l = Asking l.n l.rows l.sets (drop 3 l.q) l.c × (length l.table ≡ length l.initial.table)
-
-abbrev pub decreases-loop-c : goal.decreases-loop-c
-decreases-loop-c l = l.n - l.c
+abbrev pub invariant-loop-x : goal.invariant-loop-x
+invariant-loop-x l = Asking l.n l.rows l.sets (drop 3 l.q) l.x-index

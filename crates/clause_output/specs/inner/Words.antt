@@ -3,10 +3,8 @@ use Rattle.std.specs.Prelude.{List, map, ℕ, suc, ◌-◌, ◌≤◌, ℤ, leng
 use Rattle.lists.specs.Lists.{range}
 use Rattle.unfolding.specs.Unfolded.{Unfolded, last}
 use Rattle.unfolding.specs.Clauses.{copies_clauses, constraint_clause, signed_words}
-use Rattle.program.specs.inner.Held.{ProgramTable}
 use Rattle.copies.specs.inner.Tables.{Values}
 use Rattle.copies.specs.inner.Bodies.{entry_body}
-use Rattle.copies.specs.inner.Ready.{Ready, unfolded_in}
 
 -- The words of the clauses of all copies.
 unfoldable pub copies_clause_words : Unfolded → List ℤ
@@ -17,7 +15,6 @@ unfoldable pub backs_words : List ℕ → List ℕ → List ℕ → ℕ → ℕ 
 backs_words t p vars from to = signed_words (map constraint_clause (map (entry_body t p vars) (range from (to - from))))
 
 -- What the emitter of the copies asks for.
-pub record CopiesReady (t : ProgramTable) (components q lasts : List ℕ) (out : List ℤ) : Type 0 where
-  pub ready : Ready t components q
+pub record CopiesReady (U : Unfolded) (lasts : List ℕ) (out : List ℤ) : Type 0 where
   pub by_last : Values last lasts
-  pub room : length (copies_clause_words (unfolded_in t q)) ≤ length out
+  pub room : length (copies_clause_words U) ≤ length out

@@ -9,8 +9,8 @@ slice_bounds-put_dimacs-end c = search (rules, written_inside)
 pub put_dimacs-requires : goal.put_dimacs-requires
 put_dimacs-requires c = search (rules, text_short)
 
-pub returns-in-Refused : goal.returns-in-Refused
-returns-in-Refused c = search (rules, answer_refused)
+pub returns-in-Err : goal.returns-in-Err
+returns-in-Err c = search (rules, answer_refused)
 
-pub returns-in-Written : goal.returns-in-Written
-returns-in-Written c = search (rules, answer_written)
+pub returns-in-Ok : goal.returns-in-Ok
+returns-in-Ok c = search (rules, answer_written)

@@ -1,9 +1,5 @@
 use Rattle.component_output.proofs.Loops.{BlocksLeft}
-use Prim.Native.Nat.{◌-◌}
 use Rattle.component_output.proofs.put_blocks.Given as goal
 
-abbrev pub invariant-loop-c : goal.invariant-loop-c
-invariant-loop-c l = BlocksLeft l.sets l.n l.initial.out l.at l.out l.next l.c
-
-abbrev pub decreases-loop-c : goal.decreases-loop-c
-decreases-loop-c l = l.n - l.c
+abbrev pub invariant-loop-x : goal.invariant-loop-x
+invariant-loop-x l = BlocksLeft l.sets l.n l.initial.out l.at l.out l.next l.x-index

@@ -1,9 +1,5 @@
-use Prim.Native.Nat.{◌-◌, ◌≤◌}
 use Rattle.components.proofs.Naming.{Grouping}
 use Rattle.components.proofs.store_sets.Given as goal
 
 abbrev pub invariant-loop-a : goal.invariant-loop-a
-invariant-loop-a l = Grouping l.names l.a l.sets × (l.a ≤ l.n)
-
-abbrev pub decreases-loop-a : goal.decreases-loop-a
-decreases-loop-a l = l.n - l.a
+invariant-loop-a l = Grouping l.names l.a l.sets

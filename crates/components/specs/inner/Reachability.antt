@@ -75,10 +75,6 @@ named names c n = filter (λ a. eqb (get_or names a 0) c) (range 0 n)
 unfoldable pub names_fit : ℕ → List ℕ → ℕ → Bool
 names_fit most names n = all (λ c. leb (length (named names c n)) most) (range 0 n)
 
--- r is the larger of two numbers: what is not below it is not below either.
-pub record Larger (a b r : ℕ) : Type 0 where
-  pub is : (most : ℕ) → leb r most ≡ (leb a most && leb b most)
-
 -- r is the size of the largest set: question 7 with any limit.
 pub record Largest (n : ℕ) (sets : List ℕ) (r : ℕ) : Type 0 where
   pub is : (names : List ℕ) → SetsOf names n sets → (most : ℕ) → leb r most ≡ names_fit most names n

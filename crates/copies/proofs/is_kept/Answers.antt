@@ -4,8 +4,8 @@ use Rattle.program.proofs.Entries.{source_low}
 use Rattle.copies.proofs.Keeping.{kept_head, kept_positives}
 use Rattle.copies.proofs.is_kept.Goals as goal
 
-pub returns-then-wide-a : goal.returns-then-wide-a
-returns-then-wide-a c = search (rules, kept_head)
+pub returns-then-from-a : goal.returns-then-from-a
+returns-then-from-a c = search (rules, kept_head)
 
 pub record_at-source-requires : goal.record_at-source-requires
 record_at-source-requires c = search (rules, source_low)

@@ -1,11 +1,6 @@
 -- `copies::last_places` meets its contract, one law for each way through it.
-use Prim.Native.Nat.{◌-◌, ◌≤◌}
-use lib.ListN.{length}
 use Rattle.copies.proofs.Placing.{Placing}
 use Rattle.copies.proofs.last_places.Given as goal
 
 abbrev pub invariant-loop-i : goal.invariant-loop-i
-invariant-loop-i l = Placing l.q l.i l.places × (l.i ≤ length l.q)
-
-abbrev pub decreases-loop-i : goal.decreases-loop-i
-decreases-loop-i l = length l.q - l.i
+invariant-loop-i l = Placing l.q l.i l.places

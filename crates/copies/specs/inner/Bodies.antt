@@ -1,7 +1,6 @@
 -- Bodies of a table's entries, over variables.
 use mathlib.Core.List.{List, [], ◌∷◌, map, flat_map}
 use Rattle.std.specs.Prelude.{ℕ, ◌+◌, length, get_or}
-use Rattle.lists.specs.Lists.{range}
 use Rattle.asp.specs.Program.{Body}
 use Rattle.unfolding.specs.Unfolded.{Copy, renamed}
 use Rattle.bits.specs.inner.Visited.{listed}
@@ -16,9 +15,9 @@ body_by vars r = renamed (λ b. get_or vars b 0) (body_of r)
 unfoldable pub entry_body : List ℕ → List ℕ → List ℕ → ℕ → Body
 entry_body t p vars i = body_by vars (table_rule t p i)
 
--- The bodies over variables of the first k entries that are listed.
-unfoldable pub bodies_by : List ℕ → List ℕ → List ℕ → List ℕ → ℕ → List Body
-bodies_by t p vars entries k = map (λ j. entry_body t p vars (get_or entries j 0)) (range 0 k)
+-- The bodies over variables of the entries that are listed.
+unfoldable pub bodies_by : List ℕ → List ℕ → List ℕ → List ℕ → List Body
+bodies_by t p vars listed = map (entry_body t p vars) listed
 
 -- How many negative atoms there are: those of the set, and one where one is added.
 unfoldable pub negative_atoms : ℕ → ℕ → ℕ

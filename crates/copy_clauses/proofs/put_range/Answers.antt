@@ -1,19 +1,13 @@
 -- `copy_clauses::put_range` meets its contract, one law for each way through it.
 use borrow.Author.Rules.{rules}
-use Rattle.copy_clauses.proofs.Rules.{numbers_start, numbers_room, numbers_turn, numbers_length, numbers_end}
+use Rattle.copy_clauses.proofs.Rules.{numbers_room, numbers_turn, numbers_end}
 use Rattle.copy_clauses.proofs.put_range.Goals as goal
-
-pub loop-v-init : goal.loop-v-init
-loop-v-init c = search (rules, numbers_start)
 
 pub put_plain-next-requires : goal.put_plain-next-requires
 put_plain-next-requires c = (search (rules, numbers_room), search rules)
 
 pub loop-v-preserved : goal.loop-v-preserved
 loop-v-preserved c = search (rules, numbers_turn)
-
-pub shape_of-out : goal.shape_of-out
-shape_of-out c = search (rules, numbers_length)
 
 pub returns : goal.returns
 returns c = search (rules, numbers_end)

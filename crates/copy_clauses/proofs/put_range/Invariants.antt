@@ -1,10 +1,6 @@
 -- `copy_clauses::put_range` meets its contract, one law for each way through it.
-use Prim.Native.Nat.{◌-◌}
 use Rattle.copy_clauses.proofs.Rules.{NumbersLeft}
 use Rattle.copy_clauses.proofs.put_range.Given as goal
 
 abbrev pub invariant-loop-v : goal.invariant-loop-v
 invariant-loop-v l = NumbersLeft l.initial.out l.at l.from l.to l.out l.next l.v
-
-abbrev pub decreases-loop-v : goal.decreases-loop-v
-decreases-loop-v l = l.to - l.v

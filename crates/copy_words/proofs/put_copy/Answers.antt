@@ -1,16 +1,7 @@
 -- `copy_words::put_copy` meets its contract, one law for each way through it.
 use borrow.Author.Rules.{rules}
 use Rattle.copy_words.proofs.Copy.{copy_room, copy_wrote}
-use Rattle.copy_words.specs.inner.Words.{kept_words}
 use Rattle.copy_words.proofs.put_copy.Goals as goal
-
-pub put_word-second-requires : goal.put_word-second-requires
-unfolding kept_words
-put_word-second-requires c = search rules
-
-pub put_word-at-requires : goal.put_word-at-requires
-unfolding kept_words
-put_word-at-requires c = search rules
 
 pub put_listed-requires : goal.put_listed-requires
 put_listed-requires c = search (rules, copy_room)

@@ -6,8 +6,8 @@ use Rattle.counting.proofs.count.Goals as goal
 pub returns-then-size-gt16 : goal.returns-then-size-gt16
 returns-then-size-gt16 c = search (rules, found_many)
 
-pub count_models-states-requires : goal.count_models-states-requires
-count_models-states-requires c = search (rules, size_few)
+pub count_models-requires : goal.count_models-requires
+count_models-requires c = search (rules, size_few)
 
 pub returns : goal.returns
 returns c = search (rules, found_exact)

@@ -4,14 +4,17 @@ use Rattle.count_preparation.proofs.Ordering.{prepared_order}
 use Rattle.counting.proofs.Deciding.{models_counted, heads_low, rules_few, ready, none_decided}
 use Rattle.counting.proofs.count_models.Goals as goal
 
-pub returns_of-returns-requires : goal.returns_of-returns-requires
-returns_of-returns-requires c = search (rules, prepared_order, rules_few, heads_low)
+pub returns_of-back-requires : goal.returns_of-back-requires
+returns_of-back-requires c = search (rules, prepared_order, rules_few, heads_low)
 
-pub gates_of-gates-requires : goal.gates_of-gates-requires
-gates_of-gates-requires c = search (rules, prepared_order, rules_few, heads_low)
+pub gates_of-gate-requires : goal.gates_of-gate-requires
+gates_of-gate-requires c = search (rules, prepared_order, rules_few, heads_low)
 
-pub branch-records-requires : goal.branch-records-requires
-branch-records-requires c = search (rules, prepared_order, ready, none_decided)
+pub invariant_of-rules : goal.invariant_of-rules
+invariant_of-rules c = search (rules, prepared_order, ready)
+
+pub branch-rules-requires : goal.branch-rules-requires
+branch-rules-requires c = search (rules, none_decided)
 
 pub returns : goal.returns
 returns c = search (rules, prepared_order, models_counted)

@@ -1,5 +1,5 @@
 -- What the tables promise that say where a pass over the rules goes on.
-use Rattle.std.specs.Prelude.{true, false, List, ◌≡◌, ℕ, ◌≤◌, ◌<◌, length, get_or}
+use Rattle.std.specs.Prelude.{true, false, List, ◌≡◌, ℕ, ◌<◌, length, get_or}
 use Rattle.bits.specs.inner.Sets.{has}
 use Rattle.tables.specs.inner.Rows.{row_at}
 
@@ -12,8 +12,3 @@ pub record Entered (at : List ℕ) (set j : ℕ) (at' : List ℕ) : Type 0 where
 -- For each atom no rule before an index has it among its positive ones.
 pub record Firsts (t : List ℕ) (k : ℕ) (at : List ℕ) : Type 0 where
   pub lacks : (a j : ℕ) → j < k → j < get_or at a 0 → has (row_at t j).pos a ≡ false
-
--- r is at most each of the two.
-pub record Sooner (a b r : ℕ) : Type 0 where
-  pub first : r ≤ a
-  pub second : r ≤ b

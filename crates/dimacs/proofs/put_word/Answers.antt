@@ -7,12 +7,12 @@ put_sign-a-requires c = room_sign _ c.ranges.w _ _ c.requires
 
 pub put_decimal-b-requires : goal.put_decimal-b-requires
 put_decimal-b-requires c =
-    room_magnitude _ c.ranges.w _ _ c.requires _ _ _ c.magnitude-v.ensures c.put_sign-a.ensures
+    room_magnitude _ c.ranges.w _ _ c.requires _ _ _ c.unsigned_abs-v.ensures.value c.put_sign-a.ensures
 
 pub put_end-requires : goal.put_end-requires
 put_end-requires c =
-    room_end _ c.ranges.w _ _ c.requires _ _ _ c.magnitude-v.ensures c.put_sign-a.ensures _ _ c.put_decimal-b.ensures
+    room_end _ c.ranges.w _ _ c.requires _ _ _ c.unsigned_abs-v.ensures.value c.put_sign-a.ensures _ _ c.put_decimal-b.ensures
 
 pub returns : goal.returns
 returns c =
-    wrote_word _ c.ranges.w _ _ _ _ _ _ _ _ _ c.magnitude-v.ensures c.put_sign-a.ensures c.put_decimal-b.ensures c.put_end.ensures
+    wrote_word _ c.ranges.w _ _ _ _ _ _ _ _ _ c.unsigned_abs-v.ensures.value c.put_sign-a.ensures c.put_decimal-b.ensures c.put_end.ensures

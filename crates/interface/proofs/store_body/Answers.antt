@@ -1,10 +1,11 @@
 -- `interface::store_body` meets its contract, one law for each way through it.
+use mathlib.Core.Path.{refl}
 use borrow.Author.Rules.{rules}
-use Rattle.interface.proofs.Storing.{body_no, body_yes}
+use Rattle.interface.proofs.Storing.{stores_values, stores_refusal}
 use Rattle.interface.proofs.store_body.Goals as goal
 
-pub returns-then-refusal-ne0 : goal.returns-then-refusal-ne0
-returns-then-refusal-ne0 c = search (rules, body_no)
+pub returns-in-Ok : goal.returns-in-Ok
+returns-in-Ok c = stores_values _ _ _ c.in-Ok.body _ c.in-Ok.is refl
 
-pub returns : goal.returns
-returns c = search (rules, body_yes)
+pub returns-in-Err : goal.returns-in-Err
+returns-in-Err c = stores_refusal _ _ _ _ _ c.in-Err.is (search rules)

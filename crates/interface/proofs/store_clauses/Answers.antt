@@ -1,10 +1,11 @@
 -- `interface::store_clauses` meets its contract, one law for each way through it.
+use mathlib.Core.Path.{refl}
 use borrow.Author.Rules.{rules}
-use Rattle.interface.proofs.Storing.{clauses_no, clauses_yes}
+use Rattle.interface.proofs.Storing.{stores_values, stores_refusal}
 use Rattle.interface.proofs.store_clauses.Goals as goal
 
-pub returns-in-Refused : goal.returns-in-Refused
-returns-in-Refused c = search (rules, clauses_no)
+pub returns-in-Ok : goal.returns-in-Ok
+returns-in-Ok c = stores_values _ _ _ c.in-Ok.numbers _ c.in-Ok.is refl
 
-pub returns-in-Written : goal.returns-in-Written
-returns-in-Written c = search (rules, clauses_yes)
+pub returns-in-Err : goal.returns-in-Err
+returns-in-Err c = stores_refusal _ _ _ _ _ c.in-Err.is (search rules)

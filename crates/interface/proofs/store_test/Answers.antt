@@ -1,10 +1,11 @@
 -- `interface::store_test` meets its contract, one law for each way through it.
+use mathlib.Core.Path.{refl}
 use borrow.Author.Rules.{rules}
-use Rattle.interface.proofs.Storing.{test_no, test_yes}
+use Rattle.interface.proofs.Storing.{stores_values, stores_refusal}
 use Rattle.interface.proofs.store_test.Goals as goal
 
-pub returns-in-Refused : goal.returns-in-Refused
-returns-in-Refused c = search (rules, test_no)
+pub returns-in-Ok : goal.returns-in-Ok
+returns-in-Ok c = stores_values _ _ _ tt _ c.in-Ok.is refl
 
-pub returns-in-Passed : goal.returns-in-Passed
-returns-in-Passed c = search (rules, test_yes)
+pub returns-in-Err : goal.returns-in-Err
+returns-in-Err c = stores_refusal _ _ _ _ _ c.in-Err.is (search rules)

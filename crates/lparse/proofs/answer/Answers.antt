@@ -3,8 +3,8 @@ use borrow.Author.Rules.{rules}
 use Rattle.lparse.proofs.Texts.{answer_refused, answer_written}
 use Rattle.lparse.proofs.answer.Goals as goal
 
-pub returns-in-Refused : goal.returns-in-Refused
-returns-in-Refused c = search (rules, answer_refused)
+pub returns-in-Err : goal.returns-in-Err
+returns-in-Err c = search (rules, answer_refused, rw c.service.ensures at c.lparse.ensures)
 
-pub returns-in-Length : goal.returns-in-Length
-returns-in-Length c = search (rules, answer_written)
+pub returns-in-Ok : goal.returns-in-Ok
+returns-in-Ok c = search (rules, answer_written, rw c.service.ensures at c.lparse.ensures)

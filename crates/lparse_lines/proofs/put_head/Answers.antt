@@ -6,8 +6,8 @@ use Rattle.lparse_lines.proofs.put_head.Goals as goal
 pub put_text-requires : goal.put_text-requires
 put_text-requires c = search (rules, constraint_fits)
 
-pub returns-then-kind-eq1 : goal.returns-then-kind-eq1
-returns-then-kind-eq1 c = search (rules, wrote_constraint)
+pub returns-in-1 : goal.returns-in-1
+returns-in-1 c = search (rules, wrote_constraint)
 
 pub put_text-a-requires : goal.put_text-a-requires
 put_text-a-requires c = search (rules, choice_fits)
@@ -15,14 +15,14 @@ put_text-a-requires c = search (rules, choice_fits)
 pub put_field-requires : goal.put_field-requires
 put_field-requires c = (search rules, search (rules, choice_behind))
 
-pub returns-then-kind-eq2 : goal.returns-then-kind-eq2
-returns-then-kind-eq2 c = search (rules, wrote_choice)
+pub returns-in-2 : goal.returns-in-2
+returns-in-2 c = search (rules, wrote_choice)
 
-pub put_text-a-requires-2 : goal.put_text-a-requires-2
-put_text-a-requires-2 c = search (rules, rule_fits)
+pub put_text-a-requires-in_default : goal.put_text-a-requires-in_default
+put_text-a-requires-in_default c = search (rules, rule_fits)
 
-pub put_field-requires-2 : goal.put_field-requires-2
-put_field-requires-2 c = (search rules, search (rules, rule_behind))
+pub put_field-requires-in_default : goal.put_field-requires-in_default
+put_field-requires-in_default c = (search rules, search (rules, rule_behind))
 
-pub returns : goal.returns
-returns c = search (rules, wrote_rule)
+pub returns-in_default : goal.returns-in_default
+returns-in_default c = search (rules, wrote_rule)

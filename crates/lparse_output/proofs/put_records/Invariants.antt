@@ -1,10 +1,6 @@
 -- `lparse_output::put_records` meets its contract, one law for each way through it.
-use Prim.Native.Nat.{◌-◌}
 use Rattle.lparse_output.proofs.Parts.{RecordsLeft}
 use Rattle.lparse_output.proofs.put_records.Given as goal
 
 abbrev pub invariant-loop-j : goal.invariant-loop-j
 invariant-loop-j l = RecordsLeft l.records l.m l.initial.out l.out l.next l.j
-
-abbrev pub decreases-loop-j : goal.decreases-loop-j
-decreases-loop-j l = l.m - l.j

@@ -1,10 +1,7 @@
 -- `lparse_sizes::symbols_length` meets its contract, one law for each way through it.
 use borrow.Author.Rules.{rules}
-use Rattle.lparse_sizes.proofs.Lengths.{add_symbols_start, add_symbols_turn, add_symbols_end}
+use Rattle.lparse_sizes.proofs.Lengths.{add_symbols_turn, add_symbols_end}
 use Rattle.lparse_sizes.proofs.symbols_length.Goals as goal
-
-pub loop-a-init : goal.loop-a-init
-loop-a-init c = search (rules, add_symbols_start)
 
 pub loop-a-preserved : goal.loop-a-preserved
 loop-a-preserved c = search (rules, add_symbols_turn)

@@ -4,4 +4,4 @@ use Rattle.bits.specs.inner.Visited.{listed}
 use Rattle.missing.proofs.+put_chain.Given as goal
 
 abbrev pub decreases-put_chain : goal.decreases-put_chain
-decreases-put_chain l = length (listed l.point.extension.unused)
+decreases-put_chain l = length (listed l.extension.unused)

@@ -1,11 +1,6 @@
--- `missing::next_extension` meets its contract, one law for each way through it.
-use Rattle.chain_rows.proofs.Places.{atom_low}
 use Rattle.missing.proofs.Extending.{extension_some, extension_next}
 use borrow.Author.Rules.{rules}
 use Rattle.missing.proofs.next_extension.Goals as goal
-
-pub followers-after-requires : goal.followers-after-requires
-followers-after-requires c = search (rules, atom_low)
 
 pub lowest-place-requires : goal.lowest-place-requires
 lowest-place-requires c = search (rules, extension_some)
@@ -13,5 +8,5 @@ lowest-place-requires c = search (rules, extension_some)
 pub returns : goal.returns
 returns c =
     let pre = c.requires in
-    extension_next _ _ _ pre.0.few _ _ pre.4 pre.5 _ c.wide-x.ensures _ c.behind-from.ensures _ c.without-unused.ensures _ c.fill.ensures _ _ _
+    extension_next _ _ _ pre.0.few _ _ pre.4 pre.5 _ c.from-x.ensures _ c.behind-from.ensures _ c.without-unused.ensures _ c.fill.ensures _ _ _
     c.followers-after.ensures c.lacking.ensures c.intersection.ensures pre.2 _ c.lowest-place.ensures

@@ -1,25 +1,8 @@
--- `positions::behind` meets its contract, one law for each way through it.
-use borrow.Author.Rules.{rules}
-use Rattle.positions.proofs.Positions.{passing_start, passing_turn, passing_found, passing_end, position_low}
+use Rattle.positions.proofs.Positions.{behind_found, behind_none}
 use Rattle.positions.proofs.behind.Goals as goal
 
-pub loop-i-init : goal.loop-i-init
-loop-i-init c = search (rules, passing_start)
+pub returns-in-Some : goal.returns-in-Some
+returns-in-Some c = behind_found _ _ _ c.requires _ (rw c.from.ensures at c.in-Some.ensures)
 
-pub overflow_cast-i : goal.overflow_cast-i
-overflow_cast-i c = search (rules, position_low)
-
-pub overflow_cast-i-in-loop-i : goal.overflow_cast-i-in-loop-i
-overflow_cast-i-in-loop-i c = search (rules, position_low)
-
-pub overflow_add-i : goal.overflow_add-i
-overflow_add-i c = search (rules, position_low)
-
-pub returns-then-x-a : goal.returns-then-x-a
-returns-then-x-a c = search (rules, passing_found)
-
-pub loop-i-preserved : goal.loop-i-preserved
-loop-i-preserved c = search (rules, passing_turn)
-
-pub returns : goal.returns
-returns c = search (rules, passing_end)
+pub returns-in-None : goal.returns-in-None
+returns-in-None c = behind_none _ _ _ c.requires (rw c.from.ensures at c.in-None.ensures)

@@ -3,8 +3,8 @@ use borrow.Author.Rules.{rules}
 use Rattle.reader.proofs.Reading.{reading_start, reading_below, reading_above, reading_turn, reading_end}
 use Rattle.reader.proofs.gather_list.Goals as goal
 
-pub loop-i-init : goal.loop-i-init
-loop-i-init c = search (rules, reading_start)
+pub loop-b-init : goal.loop-b-init
+loop-b-init c = search (rules, reading_start)
 
 pub returns-then-a-low : goal.returns-then-a-low
 returns-then-a-low c = search (rules, reading_below)
@@ -12,8 +12,8 @@ returns-then-a-low c = search (rules, reading_below)
 pub returns-then-n-a : goal.returns-then-n-a
 returns-then-n-a c = search (rules, reading_above)
 
-pub loop-i-preserved : goal.loop-i-preserved
-loop-i-preserved c = search (rules, reading_turn)
+pub loop-b-preserved : goal.loop-b-preserved
+loop-b-preserved c = search (rules, reading_turn)
 
 pub returns : goal.returns
 returns c = search (rules, reading_end)

@@ -6,11 +6,11 @@ use Rattle.reader.proofs.read_records.Goals as goal
 pub loop-j-init : goal.loop-j-init
 loop-j-init c = search (rules, tabling_start)
 
-pub returns-then-r-ne0 : goal.returns-then-r-ne0
-returns-then-r-ne0 c = search (rules, tabling_refused)
+pub returns-in_err-entry : goal.returns-in_err-entry
+returns-in_err-entry c = search (rules, tabling_refused)
 
 pub loop-j-preserved : goal.loop-j-preserved
-loop-j-preserved c = search (rules, tabling_turn)
+loop-j-preserved c = search (rules, tabling_turn, c.in_ok-entry.ensures)
 
 pub returns-then-at-s : goal.returns-then-at-s
 returns-then-at-s c = search (rules, tabling_end)

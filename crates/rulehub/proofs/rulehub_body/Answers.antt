@@ -4,4 +4,4 @@ use Rattle.interface.proofs.Returning.{body_returned}
 use Rattle.rulehub.proofs.rulehub_body.Goals as goal
 
 pub returns : goal.returns
-returns c = search (rules, body_returned)
+returns c = search (rules, body_returned, rw c.service.ensures at c.find_body-place.ensures)

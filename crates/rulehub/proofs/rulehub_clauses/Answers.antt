@@ -4,4 +4,4 @@ use Rattle.interface.proofs.Returning.{returned}
 use Rattle.rulehub.proofs.rulehub_clauses.Goals as goal
 
 pub returns : goal.returns
-returns c = search (rules, returned)
+returns c = search (rules, returned, rw c.service.ensures at c.clauses-answer.ensures)

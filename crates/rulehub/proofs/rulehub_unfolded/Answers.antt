@@ -4,4 +4,4 @@ use Rattle.interface.proofs.Returning.{returned}
 use Rattle.rulehub.proofs.rulehub_unfolded.Goals as goal
 
 pub returns : goal.returns
-returns c = search (rules, returned)
+returns c = search (rules, returned, rw c.service.ensures at c.unfolded.ensures)

@@ -6,5 +6,5 @@ use Rattle.search.proofs.body_holds.Goals as goal
 pub returns-then-subset : goal.returns-then-subset
 returns-then-subset c = search (rules, body_fits)
 
-pub returns : goal.returns
-returns c = search (rules, body_lacks)
+pub returns-else-subset : goal.returns-else-subset
+returns-else-subset c = search (rules, body_lacks)

@@ -1,5 +1,5 @@
 -- The rules and constraints of a count in a table of masks, in any order, and what the steps of a least model promise.
-use Rattle.std.specs.Prelude.{Bool, true, false, not, ◌&&◌, cond, ◌⊎◌, ◌≡◌, ℕ, ◌+◌, ◌≤◌, ◌<◌, eqb, get_or}
+use Rattle.std.specs.Prelude.{Bool, true, false, not, ◌&&◌, ◌⊎◌, ◌≡◌, ℕ, ◌+◌, ◌≤◌, ◌<◌, eqb, get_or}
 use mathlib.Core.List.{List, Memᴰ}
 use Rattle.lists.specs.Lists.{all, member}
 use Rattle.asp.specs.Program.{Body, State, holds}
@@ -9,7 +9,9 @@ use Rattle.bits.specs.inner.Sets.{has}
 use Rattle.tables.specs.inner.Rows.{row_at}
 use Rattle.search.specs.inner.Decided.{CountRule, definites, surely, possibly}
 use Rattle.search.specs.declared.Sizes.{Sizes}
-use Rattle.search.specs.declared.Bound.{Bound}
+use Rattle.search.specs.declared.Decisions.{Decisions}
+use Rattle.search.specs.declared.Side.{Side}
+use Rattle.search.specs.declared.Side.TheVariants.{Sure, Possible}
 
 -- Rules, and behind them constraints, as a table's records, and for each rule its head again where it is free.
 pub record Masks : Type 0 where
@@ -51,9 +53,24 @@ HeldRules rs M = Held (RuleAt M) rs 0 M.sizes.rules
 abbrev pub HeldBodies : List Body → List ℕ → Sizes → Type 0
 HeldBodies cs t s = Held (BodyAt t) cs s.rules s.constraints
 
+-- A bound on the stable models that agree with decisions, by the rules of one side.
+pub record Bound : Type 0 where
+  pub side : Side
+  pub ins : ℕ
+  pub outs : ℕ
+
+-- The bound of a side by decisions.
+abbrev pub bound : Side → Decisions → Bound
+bound s d = record { side = s; ins = d.ins; outs = d.outs }
+
+-- The first where the rules surely apply, the second where they possibly do.
+abbrev pub on_side : Side → Bool → Bool → Bool
+on_side Sure x y = x
+on_side Possible x y = y
+
 -- The rule surely applies, or it possibly does.
 abbrev pub passes : Bound → CountRule → Bool
-passes B r = cond B.sure (surely (has B.ins) (has B.outs) r) (possibly (has B.ins) (has B.outs) r)
+passes B r = on_side B.side (surely (has B.ins) (has B.outs) r) (possibly (has B.ins) (has B.outs) r)
 
 -- Whether a rule with these masks passes.
 pub record Applies (B : Bound) (neg gate : ℕ) (b : Bool) : Type 0 where

@@ -1,23 +1,22 @@
 -- What the search over decisions promises.
-use Rattle.std.specs.Prelude.{Bool, true, false, not, ◌&&◌, ◌||◌, cond, ◌⊎◌, ◌≡◌, ℕ, ◌^◌, ◌≤◌, ◌<◌, length}
+use Rattle.std.specs.Prelude.{Bool, true, false, not, ◌&&◌, ◌||◌, cond, Option, MatchOption, ◌⊎◌, ◌≡◌, ℕ, ◌^◌, ◌≤◌, ◌<◌, length}
 use mathlib.Core.List.{List, Memᴰ}
 use Rattle.lists.specs.Lists.{filter, range}
 use Rattle.asp.specs.Program.{Body}
 use Rattle.asp.specs.LeastModel.{Inside}
 use Rattle.bits.specs.inner.Sets.{has, Subset}
 use Rattle.search.specs.inner.Decided.{CountRule, count_by}
-use Rattle.search.specs.inner.Rules.{Masks, HeldRules, HeldBodies, Lawful}
+use Rattle.search.specs.inner.Rules.{Masks, HeldRules, HeldBodies, Lawful, Bound, bound}
 use Rattle.search.specs.declared.Sizes.{Sizes}
-use Rattle.search.specs.declared.Bound.{Bound}
 use Rattle.search.specs.declared.Decisions.{Decisions}
-use Rattle.search.specs.declared.Propagation.{Propagation}
+use Rattle.search.specs.declared.Side.TheVariants.{Sure, Possible}
 
 -- The rules that surely apply under the decisions, and those that possibly do.
 abbrev pub lower : Decisions → Bound
-lower d = record { sure = true; ins = d.ins; outs = d.outs }
+lower d = bound Sure d
 
 abbrev pub upper : Decisions → Bound
-upper d = record { sure = false; ins = d.ins; outs = d.outs }
+upper d = bound Possible d
 
 -- Other decisions on the same atoms.
 abbrev pub deciding : Decisions → ℕ → ℕ → Decisions
@@ -64,24 +63,35 @@ pub record Last (M : Masks) (d : Decisions) (r : ℕ) : Type 0 where
       → ((a : ℕ) → has d.atoms a ≡ true → (has d.ins a || has d.outs a) ≡ true) → r ≡ agreeing n rs cs d
   pub small : r ≤ 1
 
+-- No stable model of any task of these masks agrees with the decisions.
+pub record Refuted (M : Masks) (d : Decisions) : Type 0 where
+  pub is : (n : ℕ) (rs : List CountRule) (cs : List Body) → Task n rs cs M d → agreeing n rs cs d ≡ 0
+
 -- The stable models that agree with the decisions are those that agree with what follows from them.
-pub record SameModels (n : ℕ) (rs : List CountRule) (cs : List Body) (M : Masks) (d : Decisions) (p : Propagation) : Type 0 where
-  pub none : p.clash ≡ true → agreeing n rs cs d ≡ 0
-  pub same : p.clash ≡ false → agreeing n rs cs d ≡ agreeing n rs cs (deciding d p.ins p.outs)
-  pub task : p.clash ≡ false → Task n rs cs M (deciding d p.ins p.outs)
+pub record SameModels (n : ℕ) (rs : List CountRule) (cs : List Body) (M : Masks) (d p : Decisions) : Type 0 where
+  pub same : agreeing n rs cs d ≡ agreeing n rs cs p
+  pub task : Task n rs cs M p
 
 -- So for every task of these masks, and nothing that was decided is lost.
-pub record Propagated (M : Masks) (d : Decisions) (p : Propagation) : Type 0 where
+pub record Follows (M : Masks) (d p : Decisions) : Type 0 where
   pub is : (n : ℕ) (rs : List CountRule) (cs : List Body) → Task n rs cs M d → SameModels n rs cs M d p
+  pub atoms : p.atoms ≡ d.atoms
   pub more_ins : Inside (has d.ins) (has p.ins)
   pub more_outs : Inside (has d.outs) (has p.outs)
 
--- One round: where no state agrees, no further atom is out.
-pub record Round (M : Masks) (d : Decisions) (p : Propagation) : Type 0 where
-  pub propagated : Propagated M d p
+-- What follows from decisions, or that no stable model agrees.
+abbrev pub Propagated : Masks → Decisions → Option Decisions → Type 0
+Propagated M d p = MatchOption p (Refuted M d) (Follows M d)
+
+-- One round, after which no atom that was out is not.
+pub record RoundTo (M : Masks) (d p : Decisions) : Type 0 where
+  pub follows : Follows M d p
   pub grows : d.outs ≤ p.outs
   pub fits : p.outs < 2 ^ 64
-  pub stops : p.clash ≡ true → p.outs ≡ d.outs
+
+-- One round of it.
+abbrev pub Round : Masks → Decisions → Option Decisions → Type 0
+Round M d p = MatchOption p (Refuted M d) (RoundTo M d)
 
 -- The set has the atom.
 pub record Member (x r : ℕ) : Type 0 where

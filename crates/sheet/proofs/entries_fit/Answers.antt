@@ -1,17 +1,17 @@
 -- `sheet::entries_fit` meets its contract, one law for each way through it.
 use native.Mathlib.Omega.{arith}
 use borrow.Author.Rules.{rules}
-use Rattle.sheet.proofs.Sequences.{fitting_start, fitting_fails, fitting_turn, fitting_end}
+use Rattle.sheet.proofs.Sequences.{fitting_start, fitting_fails, fitting_turn, fitting_end, slice_entries}
 use Rattle.sheet.proofs.entries_fit.Goals as goal
 
-pub loop-i-init : goal.loop-i-init
-loop-i-init c = search (rules, fitting_start)
+pub loop-a-init : goal.loop-a-init
+loop-a-init c = search (rules, fitting_start)
 
-pub returns-then-n-byte_at : goal.returns-then-n-byte_at
-returns-then-n-byte_at c = search (rules, fitting_fails)
+pub returns-then-n-from : goal.returns-then-n-from
+returns-then-n-from c = rw (← slice_entries c.args.q.now) (fitting_fails _ _ _ c.loop-a.invariant c.loop-a-test.true (let same = c.from.ensures in omega arith))
 
-pub loop-i-preserved : goal.loop-i-preserved
-loop-i-preserved c = fitting_turn _ _ _ _ c.loop-i.invariant (omega arith) c.byte_at.ensures (omega arith)
+pub loop-a-preserved : goal.loop-a-preserved
+loop-a-preserved c = fitting_turn _ _ _ c.loop-a.invariant c.loop-a-test.true (let same = c.from.ensures in omega arith)
 
 pub returns : goal.returns
-returns c = search (rules, fitting_end)
+returns c = rw (← slice_entries c.args.q.now) (search (rules, fitting_end))

@@ -3,14 +3,14 @@ use borrow.Author.Rules.{rules}
 use Rattle.sheet_check.proofs.Bytes.{bytes_header, bytes_long, bytes_atoms, bytes_count, bytes_records, bytes_sum, bytes_crowded, bytes_fine}
 use Rattle.sheet_check.proofs.check_bytes.Goals as goal
 
-pub returns-then-header-ne0 : goal.returns-then-header-ne0
-returns-then-header-ne0 c = search (rules, bytes_header)
+pub returns-in_err-header : goal.returns-in_err-header
+returns-in_err-header c = search (rules, bytes_header)
 
-pub read_records-refusal-requires : goal.read_records-refusal-requires
-read_records-refusal-requires c = (search (rules, bytes_long), search (rules, bytes_atoms), search (rules, bytes_count), search rules)
+pub read_records-requires : goal.read_records-requires
+read_records-requires c = (search (rules, bytes_long), search (rules, bytes_atoms), search (rules, bytes_count), search rules)
 
-pub returns-then-refusal-ne0 : goal.returns-then-refusal-ne0
-returns-then-refusal-ne0 c = search (rules, bytes_records)
+pub returns-in_err-read_records : goal.returns-in_err-read_records
+returns-in_err-read_records c = search (rules, bytes_records)
 
 pub choices_in-requires : goal.choices_in-requires
 choices_in-requires c = search (rules, bytes_count)

@@ -3,14 +3,14 @@ use borrow.Author.Rules.{rules}
 use Rattle.sheet_check.proofs.Sheets.{checked_bytes, checked_expands, checked_graph, checked_fine}
 use Rattle.sheet_check.proofs.check_records.Goals as goal
 
-pub returns-then-numbers-ne0 : goal.returns-then-numbers-ne0
-returns-then-numbers-ne0 c = search (rules, checked_bytes)
+pub returns-in_err-numbers : goal.returns-in_err-numbers
+returns-in_err-numbers c = search (rules, checked_bytes)
 
-pub check_graph-refusal-requires : goal.check_graph-refusal-requires
-check_graph-refusal-requires c = (search (rules, checked_expands), search rules)
+pub check_graph-requires : goal.check_graph-requires
+check_graph-requires c = (search (rules, checked_expands, c.in_ok-numbers.ensures), search rules)
 
-pub returns-then-refusal-ne0 : goal.returns-then-refusal-ne0
-returns-then-refusal-ne0 c = search (rules, checked_graph)
+pub returns-in_err-check_graph : goal.returns-in_err-check_graph
+returns-in_err-check_graph c = search (rules, checked_graph)
 
 pub returns : goal.returns
-returns c = search (rules, checked_fine)
+returns c = search (rules, checked_fine, c.in_ok-numbers.ensures, c.in_ok-check_graph.was)

@@ -1,5 +1,7 @@
 -- What the questions about a sheet promise: the refusal, and what is known where there is none.
-use Rattle.std.specs.Prelude.{true, ◌&&◌, List, ◌≡◌, ℕ, ◌+◌, ◌≤◌, leb, length, replicate}
+use Rattle.std.specs.Prelude.{true, ◌&&◌, List, ◌≡◌, ℕ, ◌+◌, ◌≤◌, leb, length, replicate, Result}
+use Rattle.refusals.specs.declared.Refusal.{Refusal}
+use Rattle.refusals.specs.Asked.{Asked}
 use Rattle.sheet.specs.Questions.{ask, ◌then◌}
 use Rattle.sheet.specs.Format.{atoms_byte, records_byte}
 use Rattle.sheet.specs.inner.Walk.{form_refusal}
@@ -26,11 +28,14 @@ pub record RecordsKept (s t : List ℕ) (r : SheetNumbers) : Type 0 where
   pub exact : ExactSets r.records t
   pub long : length t ≡ 384
 
+-- Both, where there is no refusal.
+pub record BytesPassed (L : Limits) (s t : List ℕ) (r : SheetNumbers) : Type 0 where
+  pub accepted : BytesAccepted L s r
+  pub kept : RecordsKept s t r
+
 -- The questions about the bytes and the records of a sheet, and its records where there is no refusal.
-pub record BytesChecked (L : Limits) (s t : List ℕ) (r : SheetNumbers) : Type 0 where
-  pub says : r.refusal ≡ bytes_refusal L s
-  pub accepted : r.refusal ≡ 0 → BytesAccepted L s r
-  pub kept : r.refusal ≡ 0 → RecordsKept s t r
+abbrev pub BytesChecked : Limits → List ℕ → List ℕ → Result SheetNumbers Refusal → Type 0
+BytesChecked L s t r = Asked (bytes_refusal L s) (BytesPassed L s t) r
 
 -- Records in a table that can be made a program, of so many atoms.
 pub record Expands (t : Records) (r : SheetNumbers) : Type 0 where
@@ -60,13 +65,20 @@ pub record SheetAccepted (L : Limits) (s names sets : List ℕ) (r : SheetNumber
   pub limit : components_fit L.component (program s) ≡ true
   pub taken : components_fit L.taken.component (program s) ≡ true
 
+-- Its edges too.
+pub record SheetPassed (L : Limits) (s edges names sets : List ℕ) (r : SheetNumbers) : Type 0 where
+  pub accepted : SheetAccepted L s names sets r
+  pub edged : EdgesOf (program s) edges
+
 -- The questions about a sheet, and its edges, names and sets where there is no refusal.
-pub record SheetChecked (L : Limits) (s edges names sets : List ℕ) (r : SheetNumbers) : Type 0 where
-  pub says : r.refusal ≡ sheet_refusal L s
-  pub accepted : r.refusal ≡ 0 → SheetAccepted L s names sets r
-  pub edged : r.refusal ≡ 0 → EdgesOf (program s) edges
+abbrev pub SheetChecked : Limits → List ℕ → List ℕ → List ℕ → List ℕ → Result SheetNumbers Refusal → Type 0
+SheetChecked L s edges names sets r = Asked (sheet_refusal L s) (SheetPassed L s edges names sets) r
+
+-- Its records too.
+pub record RecordsPassed (L : Limits) (s t edges names sets : List ℕ) (r : SheetNumbers) : Type 0 where
+  pub sheet : SheetPassed L s edges names sets r
+  pub kept : RecordsKept s t r
 
 -- The questions about a sheet, and its records where there is no refusal.
-pub record RecordsChecked (L : Limits) (s t edges names sets : List ℕ) (r : SheetNumbers) : Type 0 where
-  pub asked : SheetChecked L s edges names sets r
-  pub kept : r.refusal ≡ 0 → RecordsKept s t r
+abbrev pub RecordsChecked : Limits → List ℕ → List ℕ → List ℕ → List ℕ → List ℕ → Result SheetNumbers Refusal → Type 0
+RecordsChecked L s t edges names sets r = Asked (sheet_refusal L s) (RecordsPassed L s t edges names sets) r

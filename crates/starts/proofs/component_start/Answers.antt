@@ -1,4 +1,5 @@
--- `starts::component_start` meets its contract, one law for each way through it.
+use mathlib.Core.Path.{◌≡◌, ◌∙◌}
+use Rattle.bits.specs.inner.Visited.{listed}
 use Rattle.bits.proofs.Listing.{listed_low}
 use Rattle.chains.proofs.Components.{places_roomy}
 use Rattle.starts.proofs.Starts.{whole_row, component_none, component_some, place_index, places_some}
@@ -21,10 +22,16 @@ pub lacking-places-requires : goal.lacking-places-requires
 lacking-places-requires c = search (rules, whole_row)
 
 pub lowest-requires : goal.lowest-requires
-lowest-requires c = search (rules, places_some)
+lowest-requires c =
+    let S : c.as_slice-atoms.result.now ≡ listed c.args.x = c.as_slice-atoms.ensures.value ∙ c.list_set-list.ensures in
+    places_some _ _ S _ _ _ c.fill.ensures _ c.power-full.ensures _ c.requires.0 _ _ c.shortest-length.ensures c.lacking-places.ensures _ c.subset.ensures c.if-subset.false
 
 pub bounds-atoms-lowest : goal.bounds-atoms-lowest
-bounds-atoms-lowest c = search (rules, place_index)
+bounds-atoms-lowest c =
+    let S : c.as_slice-atoms.result.now ≡ listed c.args.x = c.as_slice-atoms.ensures.value ∙ c.list_set-list.ensures in
+    place_index _ _ S _ _ _ c.fill.ensures _ c.power-full.ensures _ c.requires.0 _ _ c.shortest-length.ensures c.lacking-places.ensures _ c.lowest.ensures
 
 pub returns : goal.returns
-returns c = search (rules, component_some)
+returns c =
+    let S : c.as_slice-atoms.result.now ≡ listed c.args.x = c.as_slice-atoms.ensures.value ∙ c.list_set-list.ensures in
+    component_some _ _ S _ _ _ c.fill.ensures _ c.power-full.ensures _ c.requires.0 _ _ c.shortest-length.ensures c.lacking-places.ensures _ c.lowest.ensures _ c.from-atom.ensures

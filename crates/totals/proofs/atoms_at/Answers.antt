@@ -1,10 +1,7 @@
 -- `totals::atoms_at` meets its contract, one law for each way through it.
 use borrow.Author.Rules.{rules}
-use Rattle.totals.proofs.Sizing.{adding_start, adding_room, adding_turn, adding_end}
+use Rattle.totals.proofs.Sizing.{adding_room, adding_turn, adding_end}
 use Rattle.totals.proofs.atoms_at.Goals as goal
-
-pub loop-j-init : goal.loop-j-init
-loop-j-init c = search (rules, adding_start)
 
 pub overflow_add-atoms : goal.overflow_add-atoms
 overflow_add-atoms c = search (rules, adding_room)

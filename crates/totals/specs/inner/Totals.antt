@@ -3,7 +3,6 @@ use Rattle.std.specs.Prelude.{List, [], ◌∷◌, ◌≡◌, ℕ, ◌+◌, ◌-
 use Rattle.unfolding.specs.Unfolded.{Unfolded}
 use Rattle.program.specs.inner.Held.{table_rule, bodies_at}
 use Rattle.copies.specs.inner.Bodies.{body_atoms, atom_count, kept_bodies}
-use Rattle.copies.specs.inner.Kept.{firsts}
 use Rattle.totals.specs.declared.Totals.{Totals}
 
 -- How many atoms the bodies of the entries from .. to - 1 have.
@@ -24,10 +23,10 @@ unfoldable pub sum_at : List ℕ → List ℕ → ℕ
 sum_at sizes [] = 0
 sum_at sizes (i ∷ is) = get_or sizes i 0 + sum_at sizes is
 
--- The sum of the sizes at the first k numbers that are listed.
-pub record ListedSum (sizes entries : List ℕ) (k r : ℕ) : Type 0 where
-  pub is : r ≡ sum_at sizes (firsts entries k)
-  pub small : r ≤ 129 * k
+-- The sum of the sizes at the numbers that are listed.
+pub record ListedSum (sizes listed : List ℕ) (r : ℕ) : Type 0 where
+  pub is : r ≡ sum_at sizes listed
+  pub small : r ≤ 129 * length listed
 
 -- The numbers of the rules that the copies keep and of their atoms.
 pub record KeptTotals (U : Unfolded) (r : Totals) : Type 0 where

@@ -1,25 +1,13 @@
--- `translation::link_record` meets its contract, one law for each way through it.
+-- `translation::link_record` meets its contract, one law for each kind.
 use borrow.Author.Rules.{rules}
-use Rattle.translation.proofs.Linking.{record_rule, record_choice, record_other, rule_low, choice_low, fresh_low, fresh_fits}
+use Rattle.translation.proofs.Linking.{record_rule, record_choice, record_other}
 use Rattle.translation.proofs.link_record.Goals as goal
 
-pub link-requires : goal.link-requires
-link-requires c = (search rules, search (rules, rule_low))
+pub returns-in-0 : goal.returns-in-0
+returns-in-0 c = search (rules, record_rule)
 
-pub returns-then-kind-eq0 : goal.returns-then-kind-eq0
-returns-then-kind-eq0 c = search (rules, record_rule)
+pub returns-in-2 : goal.returns-in-2
+returns-in-2 c = search (rules, record_choice)
 
-pub link-requires-then-kind-eq2 : goal.link-requires-then-kind-eq2
-link-requires-then-kind-eq2 c = (search rules, search (rules, choice_low))
-
-pub link-requires-then-kind-eq2-2 : goal.link-requires-then-kind-eq2-2
-link-requires-then-kind-eq2-2 c = (search rules, search (rules, fresh_low))
-
-pub overflow_add-result : goal.overflow_add-result
-overflow_add-result c = search (rules, fresh_fits)
-
-pub returns-then-kind-eq2 : goal.returns-then-kind-eq2
-returns-then-kind-eq2 c = search (rules, record_choice)
-
-pub returns : goal.returns
-returns c = search (rules, record_other)
+pub returns-in_default : goal.returns-in_default
+returns-in_default c = search (rules, record_other)

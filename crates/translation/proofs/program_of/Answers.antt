@@ -1,6 +1,6 @@
 -- `translation::program_of` meets its contract, one law for each way through it.
 use borrow.Author.Rules.{rules}
-use Rattle.translation.proofs.Appending.{ruling_start, ruling_room, ruling_fresh, ruling_small, ruling_turn, constraining_start, constraining_room, constraining_turn, constraints_behind, all_atoms, translated}
+use Rattle.translation.proofs.Appending.{ruling_start, ruling_room, ruling_fresh, ruling_turn, constraining_start, constraining_room, constraining_turn, constraints_behind, all_atoms, translated}
 use Rattle.translation.proofs.program_of.Goals as goal
 
 pub loop-j-init : goal.loop-j-init
@@ -8,9 +8,6 @@ loop-j-init c = search (rules, ruling_start)
 
 pub store_rules-rules-requires : goal.store_rules-rules-requires
 store_rules-rules-requires c = (search (rules, ruling_room), search (rules, ruling_fresh), search rules)
-
-pub next_fresh-fresh-requires : goal.next_fresh-fresh-requires
-next_fresh-fresh-requires c = search (rules, ruling_small)
 
 pub loop-j-preserved : goal.loop-j-preserved
 loop-j-preserved c = search (rules, ruling_turn)

@@ -6,8 +6,8 @@ use Rattle.translation.proofs.store_constraint.Goals as goal
 pub store-requires : goal.store-requires
 store-requires c = search (rules, constraint_room)
 
-pub returns-then-wide-eq1 : goal.returns-then-wide-eq1
-returns-then-wide-eq1 c = search (rules, constraint_stored)
+pub returns-then-r-eq1 : goal.returns-then-r-eq1
+returns-then-r-eq1 c = search (rules, constraint_stored)
 
 pub returns : goal.returns
 returns c = search (rules, no_constraint)

@@ -3,10 +3,8 @@ use mathlib.Core.List.{List, map, flat_map}
 use Rattle.std.specs.Prelude.{ℕ, ◌+◌, ◌-◌, ◌≤◌, length}
 use Rattle.lists.specs.Lists.{range}
 use Rattle.unfolding.specs.Unfolded.{Unfolded, last, copy_words}
-use Rattle.program.specs.inner.Held.{ProgramTable}
 use Rattle.copies.specs.inner.Tables.{Values}
 use Rattle.copies.specs.inner.Bodies.{entry_body}
-use Rattle.copies.specs.inner.Ready.{Ready, unfolded_in}
 use Rattle.copy_words.specs.inner.Words.{bodies_words}
 
 -- The words of the bodies of the entries from .. to - 1.
@@ -18,7 +16,6 @@ unfoldable pub copies_words : Unfolded → List ℕ
 copies_words U = flat_map copy_words U.copies
 
 -- What the emitter of the copies asks for, which writes them behind their number.
-pub record CopiesReady (t : ProgramTable) (components q lasts out : List ℕ) : Type 0 where
-  pub ready : Ready t components q
+pub record CopiesReady (U : Unfolded) (lasts out : List ℕ) : Type 0 where
   pub by_last : Values last lasts
-  pub room : 1 + length (copies_words (unfolded_in t q)) ≤ length out
+  pub room : 1 + length (copies_words U) ≤ length out

@@ -1,7 +1,0 @@
--- `bits::has_eight` meets its contract, one law for each way through it.
-use borrow.Author.Rules.{rules}
-use Rattle.bits.proofs.Runs.{eight_has}
-use Rattle.bits.proofs.has_eight.Goals as goal
-
-pub returns : goal.returns
-returns c = search (rules, eight_has)

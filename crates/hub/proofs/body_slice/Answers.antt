@@ -1,5 +1,0 @@
--- `hub::body_slice` meets its contract, one law for each way through it.
-use Rattle.hub.proofs.body_slice.Goals as goal
-
-pub returns : goal.returns
-returns c = rw c.limits.ensures.0 at c.body_slice.ensures

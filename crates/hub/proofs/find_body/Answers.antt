@@ -1,5 +1,0 @@
--- `hub::find_body` meets its contract, one law for each way through it.
-use Rattle.hub.proofs.find_body.Goals as goal
-
-pub returns : goal.returns
-returns c = rw c.limits.ensures.0 at c.find_body.ensures

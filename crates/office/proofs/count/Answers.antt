@@ -1,5 +1,0 @@
--- `office::count` meets its contract, one law for each way through it.
-use Rattle.office.proofs.count.Goals as goal
-
-pub returns : goal.returns
-returns c = rw c.limits.ensures.0 at c.count.ensures

@@ -1,5 +1,0 @@
--- `office::lparse` meets its contract, one law for each way through it.
-use Rattle.office.proofs.lparse.Goals as goal
-
-pub returns : goal.returns
-returns c = rw c.limits.ensures.0 at c.lparse.ensures
