@@ -14,7 +14,6 @@ use chain_rows::power;
 use chain_table::fill;
 
 // Is every chain of a component found in the sequence?
-#[tactic(auto, using(crate::proofs::Testing::filled_tested))]
 fn chains_found(table: &mut [u64], rows: &[u64; 64], atoms: &[u8], q: &[u8]) -> bool
     requires { Roomy (length atoms.now) (length table.old) × Low atoms.now (length atoms.now) × (3 ≤ length q.now) × (below 64 (drop 3 q.now) ≡ true) }
     ensures { Tested rows.now atoms.now (length atoms.now) (drop 3 q.now) result }

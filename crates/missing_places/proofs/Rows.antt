@@ -3,7 +3,7 @@ use mathlib.Core.Bool.{Bool, true, false, not}
 use mathlib.Core.List.Memᴰ
 use mathlib.Core.List.{List, [], ◌∷◌, Memᴰ}
 use mathlib.Core.Logic.{⊎_elim}
-use mathlib.Core.Path.{◌≡◌, sym, ◌∙◌}
+use mathlib.Core.Path.{◌≡◌, sym, ◌∙◌, subst}
 use Prim.Native.Nat.{ℕ, ◌+◌, ◌^◌, ◌≤◌, ◌<◌}
 use native.Mathlib.Omega.{arith}
 use borrow.Author.Tests.{eqb-true, eqb-false}
@@ -13,11 +13,11 @@ use lib.ListN.{length, get_or}
 use Rattle.lists.specs.Lists.{range}
 use Rattle.lists.proofs.Bools.{by_bool, true_false, and_intro, and_left, and_right, or_cases, or_left, or_right, not_intro, not_elim}
 use Rattle.lists.proofs.Members.{filter_in, range_in}
-use Rattle.bits.specs.inner.Sets.{has, Subset, Size, Difference, Either}
+use Rattle.bits.specs.inner.Sets.{has, Subset, Size, Difference, Both, Either}
 use Rattle.bits.specs.inner.Visited.{listed}
-use Rattle.bits.proofs.Digits.{zero_has}
+use Rattle.bits.proofs.Digits.{zero_has, inside_le}
 use Rattle.bits.proofs.Visiting.{has_some, has_bound, trailing_lowest}
-use Rattle.missing_places.specs.inner.Lacking.{Lacks, LackingIn, Lacking, Shortest}
+use Rattle.missing_places.specs.inner.Lacking.{Lacks, LackingIn, Lacking, ShortestAt}
 
 -- One set.
 module _ (table : List ℕ) (U m T : ℕ) where
@@ -57,25 +57,36 @@ module _ (table : List ℕ) (U m : ℕ) where
   pub below_start : Below table U m 0 0
   below_start = record { out = λ p t. absurd (true_false t (zero_has p)); back = λ p T l K. absurd (omega arith) }
 
-  pub below_turn : (S old one new : ℕ) → Below table U m S old → LackingIn table U m S one → Either old one new → Below table U m (S + 1) new
-  below_turn S old one new B L E =
-      record {
-        out = λ p t. ⊎_elim (λ h. let u = B.out p h in (u.0, let l = u.1 in omega arith, u.2)) (λ h. (S, omega arith, L.out p h)) (or_cases (has old p) (has one p) (sym (E.members p) ∙ t));
-        back = λ p T l K. E.members p ∙ by_bool (eqb T S)
-            (λ q. or_right (has old p) (L.back p (rw (eqb-true T S q) at K)))
-            (λ q. let ne = eqb-false T S q in or_left (has one p) (B.back p T (omega arith) K));
-      }
+  -- What the set S has of U.
+  module _ (S part : ℕ) (I : Both S U part) (low : S ≤ U) (small : U < 2 ^ 64) (part_small : part < 2 ^ 64) where
+    pub part_low : part ≤ S
+    part_low = inside_le 64 part S part_small (omega arith) (λ p t. and_left (has S p) (has U p) (sym (I.members p) ∙ t))
 
-  below_end : (S r : ℕ) → Below table U m S r → S ≡ U + 1 → Lacking table U m r
-  below_end S r B e =
-      record {
-        out = λ p t. let u = B.out p t in (u.0, let k = u.1 in omega arith, u.2);
-        back = λ p T k K. B.back p T (omega arith) K;
-      }
+    part_whole : ((p : ℕ) → has S p ≡ true → has U p ≡ true) → part ≡ S
+    part_whole inside =
+        let one = part_low in
+        let other = inside_le 64 S part (omega arith) part_small (λ p t. I.members p ∙ and_intro t (inside p t)) in
+        omega arith
 
-  -- The set U is the last.
-  pub below_last : (S old one new : ℕ) → Below table U m S old → LackingIn table U m S one → Either old one new → S ≡ U → Lacking table U m new
-  below_last S old one new B L E e = below_end (S + 1) new (below_turn S old one new B L E) (omega arith)
+    pub below_turn : (old one new : ℕ) → Below table U m S old → LackingIn table U m part one → Either old one new → Below table U m (S + 1) new
+    below_turn old one new B L E =
+        record {
+          out = λ p t. ⊎_elim (λ h. let u = B.out p h in (u.0, let l = u.1 in omega arith, u.2)) (λ h. (part, let l = part_low in omega arith, L.out p h))
+              (or_cases (has old p) (has one p) (sym (E.members p) ∙ t));
+          back = λ p T l K. E.members p ∙ by_bool (eqb T S)
+              (λ q.
+              let own = subst (Lacks table U m p) (eqb-true T S q) K in
+              or_right (has old p) (L.back p (subst (Lacks table U m p) (sym (part_whole own.inside)) own)))
+              (λ q. let ne = eqb-false T S q in or_left (has one p) (B.back p T (omega arith) K));
+        }
+
+    -- The set U is the last.
+    pub below_last : (old one new : ℕ) → Below table U m S old → LackingIn table U m part one → Either old one new → S ≡ U → Lacking table U m new
+    below_last old one new B L E e = let N = below_turn old one new B L E in
+        record {
+          out = λ p t. let u = N.out p t in (u.0, let k = u.1 in omega arith, u.2);
+          back = λ p T k K. N.back p T (omega arith) K;
+        }
 
 -- No set of fewer than m places lacks one.
 pub record NoneBelow (table : List ℕ) (U m : ℕ) : Type 0 where
@@ -105,11 +116,14 @@ module _ (table : List ℕ) (U k : ℕ) where
             (λ q. let ne = eqb-false j m q in N.none j (omega arith) p T h K);
       }
 
-  pub none_end : (m : ℕ) → NoneBelow table U m → k ≤ m → Shortest table U k k
-  none_end m N h = record { none = λ j i. N.none j (omega arith); some = λ i. absurd (omega arith) }
+  pub none_end : (m r : ℕ) → NoneBelow table U m → k ≤ m → Lacking table U k r → ShortestAt table U k (record { length = k; places = r })
+  none_end m r N h L = record { shortest = record { none = λ j i. N.none j (omega arith); some = λ i. absurd (omega arith) }; places = L }
 
   -- A set of numbers that is not 0 has one.
-  pub none_found : (m r : ℕ) → NoneBelow table U m → m < k → Lacking table U m r → r < 2 ^ 64 → (r ≡ 0 → ⊥) → Shortest table U k m
+  pub none_found : (m r : ℕ) → NoneBelow table U m → m < k → Lacking table U m r → r < 2 ^ 64 → (r ≡ 0 → ⊥) → ShortestAt table U k (record { length = m; places = r })
   none_found m r N l L h ne =
       let a = trailing_lowest r (omega arith) h in
-      record { none = N.none; some = λ _. let u = L.out (count_trailing_zeros 64 r) a.is in (count_trailing_zeros 64 r, u.0, u.1, u.2) }
+      record {
+        shortest = record { none = N.none; some = λ _. let u = L.out (count_trailing_zeros 64 r) a.is in (count_trailing_zeros 64 r, u.0, u.1, u.2) };
+        places = L;
+      }

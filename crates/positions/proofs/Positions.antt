@@ -1,9 +1,9 @@
--- Laws of the position behind an atom.
+-- Laws of positions in a sequence, and of the one behind an atom.
 use mathlib.Core.List.Sublistᴰ
 use mathlib.Core.List.{List, [], ◌∷◌, Sublistᴰ, cons≢nil}
 use mathlib.Core.Logic.{⊎_elim}
 use mathlib.Core.Path.{◌≡◌, sym, ◌∙◌, ap, subst}
-use Prim.Native.Nat.{ℕ, zero, suc, ◌+◌, ◌-◌, ◌<◌}
+use Prim.Native.Nat.{ℕ, zero, suc, ◌+◌, ◌-◌, ◌≤◌, ◌<◌}
 use native.Mathlib.Omega.{arith}
 use lib.Dec.{eqb}
 use lib.ListN.{length, get_or, take, drop, length-drop}
@@ -12,6 +12,19 @@ use Rattle.std.specs.Prelude.{Some, None, position}
 use Rattle.lists.proofs.Sublists.{sublist_tail, sublist_mem}
 use Rattle.bits.proofs.Places.{place_own, place_first, place_none}
 use Rattle.positions.specs.inner.Positions.{Position, Behind}
+
+module _ (q : List ℕ) (i : ℕ) (P : Position q i) where
+  -- None passes 640 + 3: the sequence's end is the last.
+  pub position_low : i ≤ 643
+  position_low = let inside = P.inside in let short = P.short in omega arith
+
+  -- The one behind an entry.
+  pub position_next : i < length q → Position q (i + 1)
+  position_next l = record { start = let h = P.start in omega arith; inside = omega arith; short = P.short }
+
+  -- The end.
+  pub position_end : Position q (length q)
+  position_end = record { start = let start = P.start in let inside = P.inside in omega arith; inside = omega arith; short = P.short }
 
 module _ (a : ℕ) (v : List ℕ) where
   -- What starts with a is found in a list just where the rest is found behind its first a.
@@ -50,18 +63,16 @@ module _ (q : List ℕ) (from a : ℕ) (P : Position q from) where
         let start = P.start in
         let rest : drop (suc p) (drop from q) ≡ drop (from + p + 1) q = drop-drop (suc p) from q ∙ ap (λ j. drop j q) (let e : from + suc p ≡ from + p + 1 = omega arith in e) in
         record {
-          position = record { start = omega arith; inside = omega arith; short = P.short };
+          position = position_next q (from + p) (record { start = omega arith; inside = omega arith; short = P.short }) (omega arith);
           onward = λ v S. subst (Sublistᴰ v) rest (onward_at a v (drop from q) p (place_first (drop from q) a p found) S);
           back = λ v m S. back_at a v (drop from q) p u.0 u.1 (subst (Sublistᴰ v) (sym rest) S);
         }
 
   pub behind_none : None ≡ position (λ b. eqb b a) entries → Behind q from a (length q)
   behind_none e =
-      let inside = P.inside in
-      let start = P.start in
       let none = place_none (drop from q) a (rw whole at (sym e)) in
       record {
-        position = record { start = omega arith; inside = omega arith; short = P.short };
+        position = position_end q from P;
         onward = λ v S. absurd (none_at a v (drop from q) none S);
         back = λ v m S. absurd (none_at a [] (drop from q) none (sublist_mem m));
       }

@@ -1,4 +1,5 @@
-// A service: the operations at its limits. All that office and hub stand on; each operation is proved in a crate of its own.
+// A service: the operations at its limits. All that office and hub stand on; each operation is proved in a crate of its own, and stands
+// here too for limits of which no service is made.
 #![tactic(auto)]
 
 ghost use Rattle.std.specs.Prelude.{◌^◌, ◌≤◌};
@@ -12,6 +13,15 @@ use operations::{BodyPlace, ClauseNumbers, Counted};
 use reader::Header;
 use refusals::Refusal;
 use sheet::Limits;
+
+// The operations at any limits that are supported, with a table that the caller lends where one is needed.
+pub use body_operations::{body, body_slice, find_body};
+pub use chain_operations::{missing, test};
+pub use clauses_operation::clauses;
+pub use count_operation::count;
+pub use lparse_operation::lparse;
+pub use sheet_operations::{components, default_sequence, read};
+pub use unfolded_operation::unfolded;
 
 // Limits that the tables have room for, and how many rows there are for the sets of a component's atoms.
 #[derive(Clone, Copy)]

@@ -10,7 +10,7 @@ ghost use Rattle.starts.specs.inner.Starts.{ComponentStart, Earlier};
 use bits::{list_set, lowest, subset};
 use chain_rows::power;
 use chain_table::fill;
-use missing_places::{lacking, shortest};
+use missing_places::shortest;
 
 // Where a missing chain starts: how many atoms it has, the first of them, and the atoms of its component.
 #[derive(Clone, Copy)]
@@ -43,11 +43,10 @@ pub fn component_start(table: &mut [u64], rows: &[u64; 64], x: u64, q: &[u8]) ->
     if subset(full as u64, table[full]) {
         return None;
     }
-    let length = shortest(table, full as u64, atoms.len());
-    let places = lacking(table, full as u64, length);
-    let atom = usize::from(atoms[lowest(places)]);
+    let found = shortest(table, full as u64, atoms.len());
+    let atom = usize::from(atoms[lowest(found.places)]);
     Some(Start {
-        length,
+        length: found.length,
         atom,
         set: x,
     })

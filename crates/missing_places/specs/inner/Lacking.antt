@@ -2,6 +2,7 @@
 use Rattle.std.specs.Prelude.{true, false, List, ◌≡◌, ℕ, ◌≤◌, ◌<◌, length, get_or}
 use Rattle.bits.specs.inner.Sets.{has}
 use Rattle.bits.specs.inner.Visited.{listed}
+use Rattle.missing_places.specs.declared.ShortestChains.{ShortestChains}
 
 -- The set T lies in U, has at most m places, p among them, and its row lacks p.
 pub record Lacks (table : List ℕ) (U m p T : ℕ) : Type 0 where
@@ -24,3 +25,8 @@ pub record Lacking (table : List ℕ) (U m r : ℕ) : Type 0 where
 pub record Shortest (table : List ℕ) (U k r : ℕ) : Type 0 where
   pub none : (m : ℕ) → m < r → (p T : ℕ) → T ≤ U → Lacks table U m p T → ⊥
   pub some : r < k → (p : ℕ) × (T : ℕ) × (T ≤ U) × Lacks table U r p T
+
+-- No chain of fewer than r.length atoms is missing, and those of r.length start at the places.
+pub record ShortestAt (table : List ℕ) (U k : ℕ) (r : ShortestChains) : Type 0 where
+  pub shortest : Shortest table U k r.length
+  pub places : Lacking table U r.length r.places

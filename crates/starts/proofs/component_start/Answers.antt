@@ -15,23 +15,20 @@ bounds-table-full c = search (rules, whole_row)
 pub returns-then-subset : goal.returns-then-subset
 returns-then-subset c = search (rules, component_none)
 
-pub shortest-length-requires : goal.shortest-length-requires
-shortest-length-requires c = search (rules, whole_row)
-
-pub lacking-places-requires : goal.lacking-places-requires
-lacking-places-requires c = search (rules, whole_row)
+pub shortest-found-requires : goal.shortest-found-requires
+shortest-found-requires c = search (rules, whole_row)
 
 pub lowest-requires : goal.lowest-requires
 lowest-requires c =
     let S : c.as_slice-atoms.result.now ≡ listed c.args.x = c.as_slice-atoms.ensures.value ∙ c.list_set-list.ensures in
-    places_some _ _ S _ _ _ c.fill.ensures _ c.power-full.ensures _ c.requires.0 _ _ c.shortest-length.ensures c.lacking-places.ensures _ c.subset.ensures c.if-subset.false
+    places_some _ _ S _ _ _ c.fill.ensures _ c.power-full.ensures _ c.requires.0 _ _ c.shortest-found.ensures.shortest c.shortest-found.ensures.places _ c.subset.ensures c.if-subset.false
 
 pub bounds-atoms-lowest : goal.bounds-atoms-lowest
 bounds-atoms-lowest c =
     let S : c.as_slice-atoms.result.now ≡ listed c.args.x = c.as_slice-atoms.ensures.value ∙ c.list_set-list.ensures in
-    place_index _ _ S _ _ _ c.fill.ensures _ c.power-full.ensures _ c.requires.0 _ _ c.shortest-length.ensures c.lacking-places.ensures _ c.lowest.ensures
+    place_index _ _ S _ _ _ c.fill.ensures _ c.power-full.ensures _ c.requires.0 _ _ c.shortest-found.ensures.shortest c.shortest-found.ensures.places _ c.lowest.ensures
 
 pub returns : goal.returns
 returns c =
     let S : c.as_slice-atoms.result.now ≡ listed c.args.x = c.as_slice-atoms.ensures.value ∙ c.list_set-list.ensures in
-    component_some _ _ S _ _ _ c.fill.ensures _ c.power-full.ensures _ c.requires.0 _ _ c.shortest-length.ensures c.lacking-places.ensures _ c.lowest.ensures _ c.from-atom.ensures
+    component_some _ _ S _ _ _ c.fill.ensures _ c.power-full.ensures _ c.requires.0 _ _ c.shortest-found.ensures.shortest c.shortest-found.ensures.places _ c.lowest.ensures _ c.from-atom.ensures
