@@ -17,7 +17,7 @@ use Rattle.bits.specs.inner.Sets.{has, Subset, Size, Difference, Both, Either}
 use Rattle.bits.specs.inner.Visited.{listed}
 use Rattle.bits.proofs.Digits.{zero_has, inside_le}
 use Rattle.bits.proofs.Visiting.{has_some, has_bound, trailing_lowest}
-use Rattle.missing_places.specs.inner.Lacking.{Lacks, LackingIn, Lacking, ShortestAt}
+use Rattle.missing_places.specs.inner.Lacking.{Lacks, LackingIn, Lacking, Shortest, ShortestAt}
 
 -- One set.
 module _ (table : List ℕ) (U m T : ℕ) where
@@ -57,6 +57,32 @@ module _ (table : List ℕ) (U m : ℕ) where
   pub below_start : Below table U m 0 0
   below_start = record { out = λ p t. absurd (true_false t (zero_has p)); back = λ p T l K. absurd (omega arith) }
 
+  -- The set S too: what is added are places that sets up to S lack, all that S lacks among them.
+  below_next : (S old one new : ℕ) → Below table U m S old → ((p : ℕ) → has one p ≡ true → (T : ℕ) × (T < S + 1) × Lacks table U m p T)
+      → ((p : ℕ) → Lacks table U m p S → has one p ≡ true) → Either old one new → Below table U m (S + 1) new
+  below_next S old one new B out back E =
+      record {
+        out = λ p t. ⊎_elim (λ h. let u = B.out p h in (u.0, let l = u.1 in omega arith, u.2)) (out p) (or_cases (has old p) (has one p) (sym (E.members p) ∙ t));
+        back = λ p T l K. E.members p ∙ by_bool (eqb T S)
+            (λ q. or_right (has old p) (back p (rw (eqb-true T S q) at K)))
+            (λ q. let ne = eqb-false T S q in or_left (has one p) (B.back p T (omega arith) K));
+      }
+
+  pub below_end : (S r : ℕ) → Below table U m S r → S ≡ U + 1 → Lacking table U m r
+  below_end S r B e =
+      record {
+        out = λ p t. let u = B.out p t in (u.0, let k = u.1 in omega arith, u.2);
+        back = λ p T k K. B.back p T (omega arith) K;
+      }
+
+  -- What is added is what S lacks.
+  pub below_turn : (S old one new : ℕ) → Below table U m S old → LackingIn table U m S one → Either old one new → Below table U m (S + 1) new
+  below_turn S old one new B L E = below_next S old one new B (λ p h. (S, omega arith, L.out p h)) L.back E
+
+  -- The set U is the last.
+  pub below_last : (S old one new : ℕ) → Below table U m S old → LackingIn table U m S one → Either old one new → S ≡ U → Lacking table U m new
+  below_last S old one new B L E e = below_end (S + 1) new (below_turn S old one new B L E) (omega arith)
+
   -- What the set S has of U.
   module _ (S part : ℕ) (I : Both S U part) (low : S ≤ U) (small : U < 2 ^ 64) (part_small : part < 2 ^ 64) where
     pub part_low : part ≤ S
@@ -68,25 +94,17 @@ module _ (table : List ℕ) (U m : ℕ) where
         let other = inside_le 64 S part (omega arith) part_small (λ p t. I.members p ∙ and_intro t (inside p t)) in
         omega arith
 
-    pub below_turn : (old one new : ℕ) → Below table U m S old → LackingIn table U m part one → Either old one new → Below table U m (S + 1) new
-    below_turn old one new B L E =
-        record {
-          out = λ p t. ⊎_elim (λ h. let u = B.out p h in (u.0, let l = u.1 in omega arith, u.2)) (λ h. (part, let l = part_low in omega arith, L.out p h))
-              (or_cases (has old p) (has one p) (sym (E.members p) ∙ t));
-          back = λ p T l K. E.members p ∙ by_bool (eqb T S)
-              (λ q.
-              let own = subst (Lacks table U m p) (eqb-true T S q) K in
-              or_right (has old p) (L.back p (subst (Lacks table U m p) (sym (part_whole own.inside)) own)))
-              (λ q. let ne = eqb-false T S q in or_left (has one p) (B.back p T (omega arith) K));
-        }
+    -- What is added is what the part lacks: all that S lacks, where S lies in U.
+    pub part_turn : (old one new : ℕ) → Below table U m S old → LackingIn table U m part one → Either old one new → Below table U m (S + 1) new
+    part_turn old one new B L E =
+        below_next S old one new B
+        (λ p h. (part, let l = part_low in omega arith, L.out p h))
+        (λ p K. L.back p (subst (Lacks table U m p) (sym (part_whole K.inside)) K))
+        E
 
     -- The set U is the last.
-    pub below_last : (old one new : ℕ) → Below table U m S old → LackingIn table U m part one → Either old one new → S ≡ U → Lacking table U m new
-    below_last old one new B L E e = let N = below_turn old one new B L E in
-        record {
-          out = λ p t. let u = N.out p t in (u.0, let k = u.1 in omega arith, u.2);
-          back = λ p T k K. N.back p T (omega arith) K;
-        }
+    pub part_last : (old one new : ℕ) → Below table U m S old → LackingIn table U m part one → Either old one new → S ≡ U → Lacking table U m new
+    part_last old one new B L E e = below_end (S + 1) new (part_turn old one new B L E) (omega arith)
 
 -- No set of fewer than m places lacks one.
 pub record NoneBelow (table : List ℕ) (U m : ℕ) : Type 0 where
@@ -116,14 +134,18 @@ module _ (table : List ℕ) (U k : ℕ) where
             (λ q. let ne = eqb-false j m q in N.none j (omega arith) p T h K);
       }
 
-  pub none_end : (m r : ℕ) → NoneBelow table U m → k ≤ m → Lacking table U k r → ShortestAt table U k (record { length = k; places = r })
-  none_end m r N h L = record { shortest = record { none = λ j i. N.none j (omega arith); some = λ i. absurd (omega arith) }; places = L }
+  pub none_end : (m : ℕ) → NoneBelow table U m → k ≤ m → Shortest table U k k
+  none_end m N h = record { none = λ j i. N.none j (omega arith); some = λ i. absurd (omega arith) }
 
   -- A set of numbers that is not 0 has one.
-  pub none_found : (m r : ℕ) → NoneBelow table U m → m < k → Lacking table U m r → r < 2 ^ 64 → (r ≡ 0 → ⊥) → ShortestAt table U k (record { length = m; places = r })
+  pub none_found : (m r : ℕ) → NoneBelow table U m → m < k → Lacking table U m r → r < 2 ^ 64 → (r ≡ 0 → ⊥) → Shortest table U k m
   none_found m r N l L h ne =
       let a = trailing_lowest r (omega arith) h in
-      record {
-        shortest = record { none = N.none; some = λ _. let u = L.out (count_trailing_zeros 64 r) a.is in (count_trailing_zeros 64 r, u.0, u.1, u.2) };
-        places = L;
-      }
+      record { none = N.none; some = λ _. let u = L.out (count_trailing_zeros 64 r) a.is in (count_trailing_zeros 64 r, u.0, u.1, u.2) }
+
+  -- The same two, with the places.
+  pub none_end_at : (m r : ℕ) → NoneBelow table U m → k ≤ m → Lacking table U k r → ShortestAt table U k (record { length = k; places = r })
+  none_end_at m r N h L = record { shortest = none_end m N h; places = L }
+
+  pub none_found_at : (m r : ℕ) → NoneBelow table U m → m < k → Lacking table U m r → r < 2 ^ 64 → (r ≡ 0 → ⊥) → ShortestAt table U k (record { length = m; places = r })
+  none_found_at m r N l L h ne = record { shortest = none_found m r N l L h ne; places = L }

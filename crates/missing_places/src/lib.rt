@@ -23,7 +23,7 @@ fn lacking_in(table: &[u64], unused: u64, m: usize, set: usize) -> u64
 
 // The places from which some chain of at most m atoms is missing, its places all of `unused`: those that some set's row lacks. What a set
 // has of `unused` is a set of `unused`, so that no set needs a test for that.
-#[tactic(auto, using(crate::proofs::Rows::below_start, crate::proofs::Rows::part_low, crate::proofs::Rows::below_turn, crate::proofs::Rows::below_last))]
+#[tactic(auto, using(crate::proofs::Rows::below_start, crate::proofs::Rows::part_low, crate::proofs::Rows::part_turn, crate::proofs::Rows::part_last))]
 pub fn lacking(table: &[u64], unused: u64, m: usize) -> u64
     requires { unused < length table.now }
     ensures { Lacking table.now unused m result }
@@ -44,7 +44,7 @@ pub struct ShortestChains {
 }
 
 // The shortest missing chains, of a component of k atoms that lacks one.
-#[tactic(auto, using(crate::proofs::Rows::none_start, crate::proofs::Rows::none_turn, crate::proofs::Rows::none_end, crate::proofs::Rows::none_found))]
+#[tactic(auto, using(crate::proofs::Rows::none_start, crate::proofs::Rows::none_turn, crate::proofs::Rows::none_end_at, crate::proofs::Rows::none_found_at))]
 pub fn shortest(table: &[u64], full: u64, k: usize) -> ShortestChains
     requires { full < length table.now }
     ensures { ShortestAt table.now full k result }
